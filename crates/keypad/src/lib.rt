@@ -1,0 +1,3 @@
+//! Keys, symbols, marks and timers: the words that every layer above shares.
+pub mod key;
+pub mod timers;
