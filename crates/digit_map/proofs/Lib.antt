@@ -30,4 +30,10 @@ pub mod Shaped
 pub mod Decided
 pub mod KeyedPlaces
 pub mod Meanings
+pub mod Placeless
+pub mod Wider
+pub mod Flags
+pub mod Finishes
+pub mod Letters
+pub mod Turning
 pub mod Reading

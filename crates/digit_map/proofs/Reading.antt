@@ -32,6 +32,7 @@ use Rattle.digit_map.proofs.Offsets.{tokens-ascend}
 use Rattle.digit_map.proofs.Spaces.{spaces-taken-out}
 use Rattle.digit_map.proofs.Misplaced.{gap-misplaced}
 use Rattle.digit_map.proofs.Meanings.{meant}
+use Rattle.digit_map.proofs.Turning.{turning}
 
 module _ (text : List ℕ) where
   -- a text of a fitting length
@@ -104,6 +105,7 @@ module _ (text : List ℕ) where
         one-fault = one-fault;
         entries = λ w h. let k : m ≡ w = cc in subst (λ (v : Map). Meant (places v)) k (derived-entries (m .timers) (places m) d);
         gaps = gap-misplaced text;
+        turning = turning text;
       }
 
   read-err : (e : Fault) → reads text ≡ bad e → ReadExactly text (Err e)
@@ -117,6 +119,7 @@ module _ (text : List ℕ) where
         one-fault = one-fault;
         entries = λ w h. let z : _≡_ {A = ℕ} 0 1 = cc in absurd (omega arith);
         gaps = gap-misplaced text;
+        turning = turning text;
       }
 
   -- what the readers answer is exact

@@ -20,6 +20,7 @@ use Rattle.digit_map.specs.Maps.{places}
 use Rattle.digit_map.specs.Spacing.{Spaced, GapAt}
 use Rattle.digit_map.specs.Grammar.{Admitted}
 use Rattle.digit_map.specs.Shows.{Decides}
+use Rattle.digit_map.specs.Continues.{Turning}
 use Rattle.digit_map.specs.Meaning.{Meant}
 
 -- a text stands for a map, by its timers and places: it has 1 to 2,048 bytes, its blanks stand where they may, and the grammar derives what
@@ -37,7 +38,8 @@ pub data FaultOf (text : List ℕ) : Fault → Type 0 where
   by-token : {f : Fault} → 0 < length text → length text ≤ 2048 → Decides (tokens false 0 text) f → FaultOf text f
 
 -- reading a text: admitted exactly when derived, as the one map that it stands for, whose entries have steps; refused exactly when it has a
--- fault, of which there is one; a gap in its tokens is the first blank of a run that may not stand there
+-- fault, of which there is one; a gap in its tokens is the first blank of a run that may not stand there; and at the token that decides it
+-- stops being the beginning of an admitted text
 pub record ReadExactly (text : List ℕ) (r : Result Map Fault) : Type 0 where
   pub derived : (m : Map) → r ≡ Ok m → Derives text (m .timers) (places m)
   pub admitted : (t : Timers) (ns : List Node) → Derives text t ns → (m : Map) × (r ≡ Ok m) × (m .timers ≡ t) × (places m ≡ ns)
@@ -47,6 +49,7 @@ pub record ReadExactly (text : List ℕ) (r : Result Map Fault) : Type 0 where
   pub one-fault : (f g : Fault) → FaultOf text f → FaultOf text g → f ≡ g
   pub entries : (m : Map) → r ≡ Ok m → Meant (places m)
   pub gaps : (o : ℕ) → GapAt text o
+  pub turning : {f : Fault} (d : Decides (tokens false 0 text) f) → Turning d
 
 -- reading into a place that holds a map: a refused text leaves it
 abbrev pub Replaced : List ℕ → Map → Map → Result (Unit {0}) Fault → Type 0

@@ -20,4 +20,5 @@ pub mod Shows
 pub mod Offsets
 pub mod Masks
 pub mod Meaning
+pub mod Continues
 pub mod Derives
