@@ -17,7 +17,7 @@ use Rattle.digit_map.specs.declared.token.Token.the-variants.{Byte, Gap, End}
 use Rattle.digit_map.specs.declared.token.Cursor.{Cursor}
 use Rattle.digit_map.specs.declared.node.Position.{Position}
 use Rattle.digit_map.specs.declared.node.Node.{Node}
-use Rattle.digit_map.specs.declared.map.Map.{Map}
+use Rattle.digit_map.specs.declared.draft.Draft.{Draft}
 use Rattle.digit_map.specs.declared.progress.Last.{Last}
 use Rattle.digit_map.specs.declared.progress.Last.the-variants as last
 use Rattle.digit_map.specs.declared.progress.Progress.{Progress}
@@ -27,11 +27,12 @@ use Rattle.digit_map.specs.declared.progress.Act.the-variants.{Go, Put, AddDot
 use Rattle.digit_map.specs.Signs.{sign-of}
 use Rattle.digit_map.specs.Tokens.{rest, behind, Moves, Next}
 use Rattle.digit_map.specs.Nodes.{position, awaiting, ending, count-positions, count-ends, dot-last}
-use Rattle.digit_map.specs.Maps.{places}
+use Rattle.digit_map.specs.Drafts.{drafted}
 use Rattle.digit_map.specs.Limits.{sale}
 use Rattle.digit_map.specs.Acts.{fresh, onward, at-halt, acts}
 use Rattle.digit_map.specs.Rooms.{Room, RoomFor}
-use Rattle.digit_map.specs.Turns.{Turn, in-alternative, state, by-sign, fault-in, halts, acted, turn-alternative, run, went}
+use Rattle.digit_map.specs.Turns.{Turn, in-alternative, state, by-sign, fault-in, halts, acted}
+use Rattle.digit_map.specs.Turns.{turn-alternative, run, went}
 use Rattle.digit_map.specs.Reads.{sign-at, SetRead, Passed, AlternativeRead}
 use Rattle.digit_map.proofs.Places.{positions-push, ends-push}
 use Rattle.digit_map.proofs.NodeLaws.{positions-dot-last, ends-dot-last}
@@ -42,7 +43,8 @@ same-ok x y h = cc
 -- a token that has a sign
 pub by-sign-ok : (n : ℕ) (g : Sign → ℕ → Turn) (x : Token) (s : Sign) (o : ℕ)
     → Ok (s, o) ≡ sign-at n x → by-sign n g x ≡ g s o
-by-sign-ok n g (Byte b c o) s k h = ap (λ (r : Sign × ℕ). g (r .0) (r .1)) (sym (same-ok (s, k) (sign-of b c, o) h))
+by-sign-ok n g (Byte b c o) s k h = ap (λ (r : Sign × ℕ). g (r .0) (r .1))
+    (sym (same-ok (s, k) (sign-of b c, o) h))
 by-sign-ok n g (Gap o) s k h = cc
 by-sign-ok n g (End o) s k h = ap (λ (r : Sign × ℕ). g (r .0) (r .1)) (sym (same-ok (s, k) (sign.End, o) h))
 
@@ -117,22 +119,24 @@ module _ (n : ℕ) (s : Sign) (o : ℕ) where
   halts-behind t ns f text base c (Gap q) h = cc
   halts-behind t ns f text base c (End q) h =
       let z = is-end n s o q h in
-      ap (λ r. went sale (halts t ns f r) []) z ∙ sym (ap (λ r. went sale (halts t ns f r) (rest text base c)) z)
+      ap (λ r. went sale (halts t ns f r) []) z
+      ∙ sym (ap (λ r. went sale (halts t ns f r) (rest text base c)) z)
 
 -- the run from a cursor on, in an alternative read so far
 abbrev onwards : List ℕ → ℕ → Frame → Timers → List Node → Progress → Cursor → Turn
 onwards text base f t ns p c = run sale (state t ns (in-alternative f p)) (rest text base c)
 
 -- an alternative from the cursor c on, of which the part up to b is read, the map grown from m to w
-pub record AlternativeUpTo (text : List ℕ) (base : ℕ) (c : Cursor) (f : Frame) (m : Map) (b : Cursor) (w : Map)
+pub record AlternativeUpTo (text : List ℕ) (base : ℕ) (c : Cursor) (f : Frame) (m : Draft) (b : Cursor)
+    (w : Draft)
     (p : Progress) : Type 0 where
   pub low : c .at ≤ b .at
   pub high : b .at ≤ length text
   pub timers : w .timers ≡ m .timers
-  pub room : Room (f .number) (count-positions (places w)) (p .last)
-  pub ends : count-ends (places w) + 1 ≡ f .number
-  pub is : run sale (state (m .timers) (places m) (in-alternative f fresh)) (rest text base c)
-      ≡ run sale (state (m .timers) (places w) (in-alternative f p)) (rest text base b)
+  pub room : Room (f .number) (count-positions (drafted w)) (p .last)
+  pub ends : count-ends (drafted w) + 1 ≡ f .number
+  pub is : run sale (state (m .timers) (drafted m) (in-alternative f fresh)) (rest text base c)
+      ≡ run sale (state (m .timers) (drafted w) (in-alternative f p)) (rest text base b)
 
 few : (n count : ℕ) (l : Last) → Room n count l → count ≤ 255
 few n count last.Nothing h = h .1
@@ -141,50 +145,54 @@ few n count last.Position h = h .1
 few n count last.Dot h = h .1
 few n count (last.Hold z) h = omega (arith, h .1)
 
-module _ {text : List ℕ} {base : ℕ} {c : Cursor} {f : Frame} {m : Map} {b : Cursor} {w : Map} {p : Progress}
+module _ {text : List ℕ} {base : ℕ} {c : Cursor} {f : Frame} {m : Draft} {b : Cursor} {w : Draft}
+    {p : Progress}
     (i : AlternativeUpTo text base c f m b w p) where
-  pub few-before : count-positions (places w) ≤ 255
-  few-before = few (f .number) (count-positions (places w)) (p .last) (i .room)
+  pub few-before : count-positions (drafted w) ≤ 255
+  few-before = few (f .number) (count-positions (drafted w)) (p .last) (i .room)
 
-  pub few-behind : (v : Map) → places v ≡ places w ++ ending (p .mark) (p .marked) ∷ []
-      → count-positions (places v) ≤ 255
+  pub few-behind : (v : Draft) → drafted v ≡ drafted w ++ ending (p .mark) (p .marked) ∷ []
+      → count-positions (drafted v) ≤ 255
   few-behind v n =
-      let z = ap count-positions n ∙ positions-push (places w) (ending (p .mark) (p .marked)) in
+      let z = ap count-positions n ∙ positions-push (drafted w) (ending (p .mark) (p .marked)) in
       omega (arith, few-before)
 
-module _ {text : List ℕ} {base : ℕ} {c : Cursor} {f : Frame} {m : Map} {b : Cursor} {w : Map} {p : Progress}
+module _ {text : List ℕ} {base : ℕ} {c : Cursor} {f : Frame} {m : Draft} {b : Cursor} {w : Draft}
+    {p : Progress}
     {x : Token} {after : Cursor} (i : AlternativeUpTo text base c f m b w p) (next : Next text base b x after)
-    {s : Sign} {o count : ℕ} (g : Ok (s, o) ≡ sign-at (f .number) x) (k : count ≡ count-positions (places w)) where
+    {s : Sign} {o count : ℕ} (g : Ok (s, o) ≡ sign-at (f .number) x)
+    (k : count ≡ count-positions (drafted w)) where
   acted-by : (a : Act) → a ≡ acts sale f count p s o
-      → onwards text base f (m .timers) (places m) fresh c
-      ≡ went sale (acted (m .timers) (places w) f p s o a) (behind text base x after)
+      → onwards text base f (m .timers) (drafted m) fresh c
+      ≡ went sale (acted (m .timers) (drafted w) f p s o a) (behind text base x after)
   acted-by a e =
-      let h = by-sign-ok (f .number) (turn-alternative sale (m .timers) (places w) f p) x s o g in
+      let h = by-sign-ok (f .number) (turn-alternative sale (m .timers) (drafted w) f p) x s o g in
       let q = sym (e ∙ ap (λ n. acts sale f n p s o) k) in
       i .is
-      ∙ (ap (run sale (state (m .timers) (places w) (in-alternative f p))) (next .is)
+      ∙ (ap (run sale (state (m .timers) (drafted w) (in-alternative f p))) (next .is)
       ∙ ap (λ (r : Turn). went sale r (behind text base x after))
-      (h ∙ ap (λ (r : Act). acted (m .timers) (places w) f p s o r) q))
+      (h ∙ ap (λ (r : Act). acted (m .timers) (drafted w) f p s o r) q))
 
   goes-by : (a : Act) → a ≡ acts sale f count p s o → goes a ≡ true
-      → onwards text base f (m .timers) (places m) fresh c
-      ≡ went sale (acted (m .timers) (places w) f p s o a) (rest text base after)
+      → onwards text base f (m .timers) (drafted m) fresh c
+      ≡ went sale (acted (m .timers) (drafted w) f p s o a) (rest text base after)
   goes-by a e h =
       let z = goes-behind f count p (f .number) s o a h e text base after x g in
-      acted-by a e ∙ ap (went sale (acted (m .timers) (places w) f p s o a)) z
+      acted-by a e ∙ ap (went sale (acted (m .timers) (drafted w) f p s o a)) z
 
   moved : (a : Act) → a ≡ acts sale f count p s o → goes a ≡ true → b .at < after .at
   moved a e h = goes-moves f count p (f .number) s o a h e (b .at) (after .at) x g (next .moves)
 
   -- the map has grown to v, with j more positions, and the reader is at d
-  grown : (q : Progress) (v : Map) (d : Cursor) (j : ℕ) → b .at ≤ d .at → d .at ≤ length text
-      → count-positions (places v) ≡ count-positions (places w) + j → count-ends (places v) ≡ count-ends (places w)
+  grown : (q : Progress) (v : Draft) (d : Cursor) (j : ℕ) → b .at ≤ d .at → d .at ≤ length text
+      → count-positions (drafted v) ≡ count-positions (drafted w) + j →
+      count-ends (drafted v) ≡ count-ends (drafted w)
       → Room (f .number) (count + j) (q .last) → v .timers ≡ w .timers
-      → onwards text base f (m .timers) (places m) fresh c ≡ onwards text base f (m .timers) (places v) q d
+      → onwards text base f (m .timers) (drafted m) fresh c ≡ onwards text base f (m .timers) (drafted v) q d
       → AlternativeUpTo text base c f m d v q
   grown q v d j up within more same h t r =
       let l = i .low in let n = i .ends in
-      let u : count + j ≡ count-positions (places v) = omega arith in
+      let u : count + j ≡ count-positions (drafted v) = omega arith in
       record {
         low = omega arith;
         high = within;
@@ -195,56 +203,58 @@ module _ {text : List ℕ} {base : ℕ} {c : Cursor} {f : Frame} {m : Map} {b : 
       }
 
   -- one position more
-  pushed : (y : Position) (q : Progress) (v : Map) (d : Cursor) → b .at ≤ d .at → d .at ≤ length text
-      → places v ≡ places w ++ awaiting y (p .mark) (p .marked) ∷ []
+  pushed : (y : Position) (q : Progress) (v : Draft) (d : Cursor) → b .at ≤ d .at → d .at ≤ length text
+      → drafted v ≡ drafted w ++ awaiting y (p .mark) (p .marked) ∷ []
       → Room (f .number) (count + 1) (q .last) → v .timers ≡ w .timers
-      → onwards text base f (m .timers) (places m) fresh c
-      ≡ onwards text base f (m .timers) (places w ++ awaiting y (p .mark) (p .marked) ∷ []) q d
+      → onwards text base f (m .timers) (drafted m) fresh c
+      ≡ onwards text base f (m .timers) (drafted w ++ awaiting y (p .mark) (p .marked) ∷ []) q d
       → AlternativeUpTo text base c f m d v q
   pushed y q v d up within n h t r =
-      let z = ends-push (places w) (awaiting y (p .mark) (p .marked)) in
-      let same : count-ends (places v) ≡ count-ends (places w) = ap count-ends n ∙ omega arith in
-      grown q v d 1 up within (ap count-positions n ∙ positions-push (places w) _) same h t
+      let z = ends-push (drafted w) (awaiting y (p .mark) (p .marked)) in
+      let same : count-ends (drafted v) ≡ count-ends (drafted w) = ap count-ends n ∙ omega arith in
+      grown q v d 1 up within (ap count-positions n ∙ positions-push (drafted w) _) same h t
       (r ∙ ap (λ ns. onwards text base f (m .timers) ns q d) (sym n))
 
-  pub alternative-put : {y : Position} {q : Progress} {v : Map} → Put y q ≡ acts sale f count p s o
-      → RoomFor (f .number) count (Put y q) → places v ≡ places w ++ awaiting y (p .mark) (p .marked) ∷ []
+  pub alternative-put : {y : Position} {q : Progress} {v : Draft} → Put y q ≡ acts sale f count p s o
+      → RoomFor (f .number) count (Put y q) → drafted v ≡ drafted w ++ awaiting y (p .mark) (p .marked) ∷ []
       → v .timers ≡ w .timers → AlternativeUpTo text base c f m after v q
   alternative-put {y} {q} {v} e h n t =
       let d = moved (Put y q) e refl in
       pushed y q v after (omega arith) (next .high) n (h .2) t (goes-by (Put y q) e refl)
 
-  pub alternative-dot : {q : Progress} {v : Map} → AddDot q ≡ acts sale f count p s o
-      → RoomFor (f .number) count (AddDot q) → places v ≡ dot-last (places w)
+  pub alternative-dot : {q : Progress} {v : Draft} → AddDot q ≡ acts sale f count p s o
+      → RoomFor (f .number) count (AddDot q) → drafted v ≡ dot-last (drafted w)
       → v .timers ≡ w .timers → AlternativeUpTo text base c f m after v q
   alternative-dot {q} {v} e h n t =
       let d = moved (AddDot q) e refl in
-      let z = positions-dot-last (places w) in
+      let z = positions-dot-last (drafted w) in
       let none : count ≡ count + 0 = omega arith in
-      let more : count-positions (places v) ≡ count-positions (places w) + 0 = ap count-positions n ∙ omega arith in
-      grown q v after 0 (omega arith) (next .high) more (ap count-ends n ∙ ends-dot-last (places w))
+      let more : count-positions (drafted v) ≡ count-positions (drafted w) + 0 = ap count-positions n
+      ∙ omega arith in
+      grown q v after 0 (omega arith) (next .high) more (ap count-ends n ∙ ends-dot-last (drafted w))
       (subst (λ r. Room (f .number) r (q .last)) none h) t
       (goes-by (AddDot q) e refl ∙ ap (λ ns. onwards text base f (m .timers) ns q after) (sym n))
 
   module _ {l : Bool} (keys : ℕ) (d : Cursor) (e : OpenSet l ≡ acts sale f count p s o)
       (r : SetRead text base after o (f .number) (Ok (keys, d))) where
-    pub alternative-set : {v : Map} → RoomFor (f .number) count (OpenSet l)
-        → places v ≡ places w ++ awaiting (position keys l false) (p .mark) (p .marked) ∷ [] → v .timers ≡ w .timers
+    pub alternative-set : {v : Draft} → RoomFor (f .number) count (OpenSet l)
+        → drafted v ≡ drafted w ++ awaiting (position keys l false) (p .mark) (p .marked) ∷ [] →
+        v .timers ≡ w .timers
         → AlternativeUpTo text base c f m d v (onward p o (p .mark) false last.Position)
     alternative-set {v} h n t =
         let u = moved (OpenSet l) e refl in let a = r .0 in
         pushed (position keys l false) (onward p o (p .mark) false last.Position) v d (omega arith) (r .1) n
-        (h .0, omega (arith, h .1)) t (goes-by (OpenSet l) e refl ∙ r .2 (m .timers) (places w) f p l refl)
+        (h .0, omega (arith, h .1)) t (goes-by (OpenSet l) e refl ∙ r .2 (m .timers) (drafted w) f p l refl)
 
     pub alternative-set-less : length text - d .at < length text - b .at
     alternative-set-less = let u = moved (OpenSet l) e refl in let a = r .0 in let h = r .1 in omega arith
 
-  pub alternative-wrong : (v : Map) {why : Cause} {at : ℕ} → Wrong why at ≡ acts sale f count p s o
+  pub alternative-wrong : (v : Draft) {why : Cause} {at : ℕ} → Wrong why at ≡ acts sale f count p s o
       → AlternativeRead text base c f m v (Err (fault-in (f .number) why at))
   alternative-wrong v {why} {at} e = acted-by (Wrong why at) e
 
-  pub alternative-halt : (v : Map) → Halt ≡ acts sale f count p s o → RoomFor (f .number) count Halt
-      → places v ≡ places w ++ ending (p .mark) (p .marked) ∷ [] → v .timers ≡ w .timers
+  pub alternative-halt : (v : Draft) → Halt ≡ acts sale f count p s o → RoomFor (f .number) count Halt
+      → drafted v ≡ drafted w ++ ending (p .mark) (p .marked) ∷ [] → v .timers ≡ w .timers
       → AlternativeRead text base c f m v (Ok (s, after))
   alternative-halt v e h n t =
       let z = ending (p .mark) (p .marked) in (
@@ -252,8 +262,8 @@ module _ {text : List ℕ} {base : ℕ} {c : Cursor} {f : Frame} {m : Map} {b : 
         halts-passed (f .number) s o (c .at) (b .at) (after .at) x g (i .low) (next .moves),
         next .high,
         h .0,
-        ap count-ends n ∙ ends-push (places w) z ∙ i .ends,
+        ap count-ends n ∙ ends-push (drafted w) z ∙ i .ends,
         acted-by Halt e
-            ∙ (halts-behind (f .number) s o (m .timers) (places w ++ z ∷ []) f text base after x g
+            ∙ (halts-behind (f .number) s o (m .timers) (drafted w ++ z ∷ []) f text base after x g
             ∙ ap (λ ns. went sale (halts (m .timers) ns f s) (rest text base after)) (sym n)),
       )

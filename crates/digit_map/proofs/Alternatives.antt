@@ -13,14 +13,15 @@ use Rattle.digit_map.specs.declared.sign.Sign.the-variants as sign
 use Rattle.digit_map.specs.declared.token.Token.{Token}
 use Rattle.digit_map.specs.declared.token.Token.the-variants.{Byte, Gap, End}
 use Rattle.digit_map.specs.declared.token.Cursor.{Cursor}
-use Rattle.digit_map.specs.declared.map.Map.{Map}
+use Rattle.digit_map.specs.declared.draft.Draft.{Draft}
 use Rattle.digit_map.specs.declared.progress.Frame.{Frame}
 use Rattle.digit_map.specs.Tokens.{tokens, rest, behind, Next}
 use Rattle.digit_map.specs.Nodes.{count-positions, count-ends}
-use Rattle.digit_map.specs.Maps.{places}
+use Rattle.digit_map.specs.Drafts.{drafted}
 use Rattle.digit_map.specs.Limits.{sale}
 use Rattle.digit_map.specs.Acts.{fresh}
-use Rattle.digit_map.specs.Turns.{Turn, in-head, in-alternative, state, frame, by-sign, turn-head, turn-alternative, run, went}
+use Rattle.digit_map.specs.Turns.{Turn, in-head, in-alternative, state, frame, by-sign, turn-head}
+use Rattle.digit_map.specs.Turns.{turn-alternative, run, went}
 use Rattle.digit_map.specs.Reads.{sign-at}
 use Rattle.digit_map.proofs.Acting.{by-sign-ok, is-end}
 
@@ -28,15 +29,15 @@ abbrev begin : Bool → Cursor
 begin j = record { at = 0; loose = j }
 
 -- alternatives up to b, where the one that f says begins, the map grown from m to w
-pub record AlternativesUpTo (text : List ℕ) (base : ℕ) (j : Bool) (m : Map) (f : Frame) (b : Cursor)
-    (w : Map) : Type 0 where
+pub record AlternativesUpTo (text : List ℕ) (base : ℕ) (j : Bool) (m : Draft) (f : Frame) (b : Cursor)
+    (w : Draft) : Type 0 where
   pub high : b .at ≤ length text
   pub timers : w .timers ≡ m .timers
-  pub few : count-positions (places w) ≤ 255
-  pub ends : count-ends (places w) + 1 ≡ f .number
+  pub few : count-positions (drafted w) ≤ 255
+  pub ends : count-ends (drafted w) + 1 ≡ f .number
   pub number : f .number ≤ 65
   pub is : run sale (state (m .timers) [] (in-head 4)) (tokens j base text)
-      ≡ run sale (state (m .timers) (places w) (in-alternative f fresh)) (rest text base b)
+      ≡ run sale (state (m .timers) (drafted w) (in-alternative f fresh)) (rest text base b)
 
 -- behind the head an alternative begins at once, unless a bracket opens
 sign-bare : (t : Timers) (s : Sign) (o : ℕ) → (s ≡ sign.Open → ⊥) →
@@ -72,7 +73,7 @@ module _ {text : List ℕ} {base : ℕ} {j : Bool} {x : Token} {after : Cursor}
       ap (λ n. run sale (state t [] (in-head 4)) (tokens j n text)) z
       ∙ ap (run sale (state t [] (in-head 4))) (next .is)
 
-  module _ {s : Sign} {o : ℕ} (m : Map) (g : Ok (s, o) ≡ sign-at 1 x) (empty : places m ≡ []) where
+  module _ {s : Sign} {o : ℕ} (m : Draft) (g : Ok (s, o) ≡ sign-at 1 x) (empty : drafted m ≡ []) where
     begins : (f : Frame) (b : Cursor) → f .number ≡ 1 → b .at ≤ length text →
         run sale (state (m .timers) [] (in-head 4)) (tokens j base text)
         ≡ run sale (state (m .timers) [] (in-alternative f fresh)) (rest text base b) →
@@ -85,7 +86,8 @@ module _ {text : List ℕ} {base : ℕ} {j : Bool} {x : Token} {after : Cursor}
           few = omega arith;
           ends = omega arith;
           number = omega arith;
-          is = r ∙ ap (λ ns. run sale (state (m .timers) ns (in-alternative f fresh)) (rest text base b)) (sym empty);
+          is = r ∙ ap (λ ns. run sale (state (m .timers) ns (in-alternative f fresh)) (rest text base b))
+              (sym empty);
         }
 
     turned : run sale (state (m .timers) [] (in-head 4)) (tokens j base text)

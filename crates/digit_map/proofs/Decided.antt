@@ -50,7 +50,8 @@ same-cause : (c d : Cause) → cause-number c ≡ cause-number d → c ≡ d
 same-cause c d e = sym (number-of c) ∙ (ap of-number e ∙ number-of d)
 
 -- a fault that shows has the number of the alternative being read, unless it is the head's
-shows-in : {p : List Token} {q : State} {x : Token} {f : Fault} → Shows p q x f → f ≡ fault-in (number-at (q .spot)) (f .cause) (f .offset)
+shows-in : {p : List Token} {q : State} {x : Token} {f : Fault} → Shows p q x f →
+    f ≡ fault-in (number-at (q .spot)) (f .cause) (f .offset)
 shows-in (named (field-misplaced i e out may)) = refl
 shows-in (named (field-broken o e d b)) = refl
 shows-in (named (set-broken o e d b)) = refl
@@ -61,26 +62,33 @@ shows-in (named (position-excess e k b)) = refl
 shows-in (named (alternative-excess e k b)) = refl
 shows-in (not-allowed b n) = refl
 
-before-both : (f g : Fault) → Before f g → Before g f → (cause-number (f .cause) ≡ cause-number (g .cause)) × (f .offset ≡ g .offset)
+before-both : (f g : Fault) → Before f g → Before g f →
+    (cause-number (f .cause) ≡ cause-number (g .cause)) × (f .offset ≡ g .offset)
 before-both f g (inl a) (inl b) = absurd (omega arith)
 before-both f g (inl a) (inr b) = let e = b .0 in absurd (omega arith)
 before-both f g (inr a) (inl b) = let e = a .0 in absurd (omega arith)
 before-both f g (inr a) (inr b) = let h = a .1 in let k = b .1 in (a .0, omega arith)
 
-same-fault : {p : List Token} {q : State} {x : Token} (f g : Fault) → Shows p q x f → Shows p q x g → Before f g → Before g f → f ≡ g
+same-fault : {p : List Token} {q : State} {x : Token} (f g : Fault) → Shows p q x f → Shows p q x g →
+    Before f g → Before g f → f ≡ g
 same-fault {q = q} f g s r a b =
     let e = before-both f g a b in
     shows-in s
     ∙ (ap (λ c. fault-in (number-at (q .spot)) c (f .offset)) (same-cause (f .cause) (g .cause) (e .0))
     ∙ (ap (fault-in (number-at (q .spot)) (g .cause)) (e .1) ∙ sym (shows-in r)))
 
-module _ (n : ℕ) {p : List Token} {q : State} (s : Standing sale p q) (x : Token) (r : List Token) (asc : Ascends n (p ++ x ∷ r)) where
+module _ (n : ℕ) {p : List Token} {q : State} (s : Standing sale p q) (x : Token) (r : List Token)
+    (asc : Ascends n (p ++ x ∷ r)) where
   -- what stops the reader is what shows
-  stops-at : (f : Fault) → turn sale q x ≡ bad f → {g : Fault} → Faulty p q x g → (Before f g) × (cause-number (f .cause) ≡ 3 → ⊥)
+  stops-at : (f : Fault) → turn sale q x ≡ bad f → {g : Fault} → Faulty p q x g →
+      (Before f g) × (cause-number (f .cause) ≡ 3 → ⊥)
   stops-at f e {g = g} y =
       let b : Blamed q x g = shown n r s x asc y in
-      let d : b .found ≡ f = cc (b .is, e) in
-      (subst (λ v. Before v g) d (b .before), subst (λ (v : Fault). cause-number (v .cause) ≡ 3 → ⊥) d (b .named))
+      let d : b .found ≡ f = cc (b .is, e) in (
+        subst (λ v. Before v g) d (b .before),
+        subst (λ (v : Fault). cause-number (v .cause) ≡ 3 → ⊥) d
+            (b .named),
+      )
 
   shows-by : (f : Fault) → turn sale q x ≡ bad f → Ruled p x q (bad f) → Shows p q x f
   shows-by f e (inl y) = named y
@@ -91,16 +99,23 @@ module _ (n : ℕ) {p : List Token} {q : State} (s : Standing sale p q) (x : Tok
   pub shows-bad : (f : Fault) → turn sale q x ≡ bad f → Shows p q x f
   shows-bad f e = shows-by f e (subst (Ruled p x q) e (ruled s x))
 
-  least-by : (f : Fault) → turn sale q x ≡ bad f → Ruled p x q (bad f) → (g : Fault) → Shows p q x g → Before f g
+  least-by : (f : Fault) → turn sale q x ≡ bad f → Ruled p x q (bad f) → (g : Fault) → Shows p q x g →
+      Before f g
   least-by f e y g (named z) = stops-at f e z .0
   least-by f e (inl y) g (not-allowed b none) = absurd (none f y)
-  least-by f e (inr h) g (not-allowed b none) = inr (ap (λ (v : Fault). cause-number (v .cause)) h, let o = ap (λ (v : Fault). v .offset) h in omega arith)
+  least-by f e (inr h) g (not-allowed b none) =
+      inr (
+        ap (λ (v : Fault). cause-number (v .cause)) h,
+        let o = ap (λ (v : Fault). v .offset) h in
+            omega arith,
+      )
 
   pub least-bad : (f : Fault) → turn sale q x ≡ bad f → (g : Fault) → Shows p q x g → Before f g
   least-bad f e = least-by f e (subst (Ruled p x q) e (ruled s x))
 
   -- where the reader goes on or ends nothing shows
-  silent : (y : Turn) → turn sale q x ≡ y → Leads sale p x y → (f : Fault) → Shows p q x f → (g : Fault) × (turn sale q x ≡ bad g)
+  silent : (y : Turn) → turn sale q x ≡ y → Leads sale p x y → (f : Fault) → Shows p q x f →
+      (g : Fault) × (turn sale q x ≡ bad g)
   silent (on w) e l f (named z) = let b : Blamed q x f = shown n r s x asc z in (b .found, b .is)
   silent (on w) e l f (not-allowed b none) = absurd (b .no-place w l)
   silent (done t ns) e l f (named z) = let b : Blamed q x f = shown n r s x asc z in (b .found, b .is)
@@ -111,12 +126,16 @@ module _ (n : ℕ) {p : List Token} {q : State} (s : Standing sale p q) (x : Tok
   shows-stop f z = silent (turn sale q x) refl (leads sale s x) f z
 
 -- before a place that is reached no token shows a fault
-none-before : (n : ℕ) (p : List Token) (q : State) → Standing sale p q → Ascends n p → (a : List Token) (x : Token) (r : List Token) (w : State) (f : Fault) →
+none-before : (n : ℕ) (p : List Token) (q : State) → Standing sale p q → Ascends n p →
+    (a : List Token) (x : Token) (r : List Token) (w : State) (f : Fault) →
     p ≡ a ++ x ∷ r → Standing sale a w → Shows a w x f → ⊥
 none-before n p q s asc a x r w f e h z =
     let g = shows-stop n h x r (subst (Ascends n) e asc) f z in
-    let u : run sale start (a ++ x ∷ r) ≡ on q = ap (run sale start) (sym e) ∙ stands-pass sale (s .text) (s .limits) in
-    let v : run sale start (a ++ x ∷ r) ≡ bad (g .0) = run-join sale a (x ∷ r) start w (stands-pass sale (h .text) (h .limits)) ∙ ap (λ t. went sale t r) (g .1) in
+    let u : run sale start (a ++ x ∷ r) ≡ on q = ap (run sale start) (sym e)
+    ∙ stands-pass sale (s .text) (s .limits) in
+    let v : run sale start (a ++ x ∷ r) ≡ bad (g .0) =
+    run-join sale a (x ∷ r) start w (stands-pass sale (h .text) (h .limits))
+    ∙ ap (λ t. went sale t r) (g .1) in
     let k : _≡_ {A = ℕ} 0 1 = cc in omega arith
 
 ascends-front : (n : ℕ) (p r : List Token) → Ascends n (p ++ r) → Ascends n p
@@ -141,7 +160,8 @@ stop-by p x ts q f s below (done t ns) d l e = let z : _≡_ {A = ℕ} 0 1 = cc 
 stop-by p x ts q f s below (bad g) d l e =
     record { before = p; here = x; after = ts; is = refl; place = q; stands = s; stops = d ∙ e }
 
-stop-at : (ts p : List Token) (q : State) (f : Fault) → Standing sale p q → run sale q ts ≡ bad f → Stop (p ++ ts) f
+stop-at : (ts p : List Token) (q : State) (f : Fault) → Standing sale p q → run sale q ts ≡ bad f →
+    Stop (p ++ ts) f
 stop-at [] p q f s e = let z : _≡_ {A = ℕ} 0 1 = cc in absurd (omega arith)
 stop-at (x ∷ ts) p q f s e =
     stop-by p x ts q f s (λ w l. stop-at ts (p ++ x ∷ []) w f l) (turn sale q x) refl (leads sale s x) e
@@ -161,7 +181,8 @@ decided n ts f asc e =
       shows = shows-bad n (s .stands) (s .here) (s .after) a f (s .stops);
       least = least-bad n (s .stands) (s .here) (s .after) a f (s .stops);
       first = λ p x r q g d h z.
-          none-before n (s .before) (s .place) (s .stands) (ascends-front n (s .before) (s .here ∷ s .after) a) p x r q g d h z;
+          none-before n (s .before) (s .place) (s .stands)
+          (ascends-front n (s .before) (s .here ∷ s .after) a) p x r q g d h z;
     }
 
 -- the fault that decides is the reader's answer
@@ -171,7 +192,9 @@ answered n ts f asc d =
     let g = shows-stop n (d .stands) (d .here) (d .after) a f (d .shows) in
     let r = shows-bad n (d .stands) (d .here) (d .after) a (g .0) (g .1) in
     let e : f ≡ g .0 =
-    same-fault f (g .0) (d .shows) r (d .least (g .0) r) (least-bad n (d .stands) (d .here) (d .after) a (g .0) (g .1) f (d .shows)) in
+    same-fault f (g .0) (d .shows) r (d .least (g .0) r)
+    (least-bad n (d .stands) (d .here) (d .after) a (g .0) (g .1) f (d .shows)) in
     ap (run sale start) (d .is)
-    ∙ (run-join sale (d .before) (d .here ∷ d .after) start (d .place) (stands-pass sale (d .stands .text) (d .stands .limits))
+    ∙ (run-join sale (d .before) (d .here ∷ d .after) start (d .place)
+    (stands-pass sale (d .stands .text) (d .stands .limits))
     ∙ (ap (λ t. went sale t (d .after)) (g .1) ∙ ap bad (sym e)))

@@ -19,10 +19,12 @@ use Rattle.digit_map.specs.Signs.{sign-of}
 use Rattle.digit_map.specs.Fields.{rank}
 use Rattle.digit_map.specs.Limits.{Limits}
 use Rattle.digit_map.specs.Acts.{fresh}
-use Rattle.digit_map.specs.Turns.{State, Turn, on, done, bad, state, start, frame, in-head, in-field, in-alternative, turn, turn-head, turn-alternative, turn-closed, run, went}
+use Rattle.digit_map.specs.Turns.{State, Turn, on, done, bad, state, start, frame, in-head, in-field}
+use Rattle.digit_map.specs.Turns.{in-alternative, turn, turn-head, turn-alternative, turn-closed, run, went}
 use Rattle.digit_map.specs.Grammar as g
 use Rattle.digit_map.specs.Grammar.{Head, none, Front, bare, opened, Alternative, several, Whole, Admitted}
-use Rattle.digit_map.specs.Standing.{Stands, in-the-head, in-a-field, in-an-alternative, in-a-set, behind-bracket, free, Limited, Standing}
+use Rattle.digit_map.specs.Standing.{Stands, in-the-head, in-a-field, in-an-alternative, in-a-set}
+use Rattle.digit_map.specs.Standing.{behind-bracket, free, Limited, Standing}
 use Rattle.digit_map.proofs.Runs.{run-join}
 use Rattle.digit_map.proofs.SignLaws.{byte-of}
 use Rattle.digit_map.proofs.Leads.{Leads}
@@ -32,25 +34,30 @@ use Rattle.digit_map.proofs.AlternativeLeads.{byte-leads, end-leads}
 
 module _ (L : Limits) where
   -- an alternative may begin behind a head
-  begins : {p : List Token} {t : Timers} {k : ℕ} → Head p t k → (d : ℕ) (c : Bool) (o : ℕ) (sg : Sign) → sign-of d c ≡ sg →
+  begins : {p : List Token} {t : Timers} {k : ℕ} → Head p t k → (d : ℕ) (c : Bool) (o : ℕ) (sg : Sign) →
+      sign-of d c ≡ sg →
       Leads L p (Byte d c o) (turn-alternative L t [] (frame false 1) fresh sg o)
   begins {p = p} {t = t} x d c o sg e =
       subst (λ v. Leads L v (Byte d c o) (turn-alternative L t [] (frame false 1) fresh sg o)) (append-nil p)
       (byte-leads L (bare x) (free none) (omega arith, omega arith) d c o sg e)
 
-  head-leads : {p : List Token} {t : Timers} {k : ℕ} → Head p t k → (d : ℕ) (c : Bool) (o : ℕ) (sg : Sign) → sign-of d c ≡ sg →
+  head-leads : {p : List Token} {t : Timers} {k : ℕ} → Head p t k → (d : ℕ) (c : Bool) (o : ℕ) (sg : Sign) →
+      sign-of d c ≡ sg →
       Leads L p (Byte d c o) (turn-head L t k sg o)
   head-leads x d c o (sign.Keys m) e = begins x d c o (sign.Keys m) e
   head-leads x d c o (sign.Timer m) e = begins x d c o (sign.Timer m) e
   head-leads {p = p} {k = k} x d c o (sign.Field i) e =
       cond-both (leb k (rank i)) _ _ (Leads L p (Byte d c o))
-      (λ h. record { text = in-a-field x (leb-true k (rank i) h) (g.letter d c o i e); limits = tt }) (λ _. tt)
+      (λ h. record { text = in-a-field x (leb-true k (rank i) h) (g.letter d c o i e); limits = tt })
+      (λ _. tt)
   head-leads x d c o sign.Hold e = begins x d c o sign.Hold e
   head-leads x d c o sign.SetOpen e = begins x d c o sign.SetOpen e
   head-leads {p = p} {t = t} x d c o sign.Open e =
       record {
-        text = subst (λ v. Stands (p ++ Byte v c o ∷ []) (state t [] (in-alternative (frame true 1) fresh))) (sym (byte-of d c sign.Open e))
-            (subst (λ v. Stands v (state t [] (in-alternative (frame true 1) fresh))) (append-nil (p ++ Byte 40 c o ∷ []))
+        text = subst (λ v. Stands (p ++ Byte v c o ∷ []) (state t [] (in-alternative (frame true 1) fresh)))
+            (sym (byte-of d c sign.Open e))
+            (subst (λ v. Stands v (state t [] (in-alternative (frame true 1) fresh)))
+            (append-nil (p ++ Byte 40 c o ∷ []))
             (in-an-alternative (opened x c o) (free none) tt));
         limits = (omega arith, omega arith);
       }
@@ -60,7 +67,8 @@ module _ (L : Limits) where
   head-leads x d c o sign.End e = absurd (byte-of d c sign.End e)
   head-leads x d c o sign.Other e = begins x d c o sign.Other e
 
-  closed-leads : (p : List Token) (t : Timers) (ns : List Node) (n d : ℕ) (c : Bool) (o : ℕ) (sg : Sign) → sign-of d c ≡ sg →
+  closed-leads : (p : List Token) (t : Timers) (ns : List Node) (n d : ℕ) (c : Bool) (o : ℕ) (sg : Sign) →
+      sign-of d c ≡ sg →
       Leads L p (Byte d c o) (turn-closed t ns n sg o)
   closed-leads p t ns n d c o (sign.Keys k) e = tt
   closed-leads p t ns n d c o (sign.Timer m) e = tt
@@ -74,7 +82,8 @@ module _ (L : Limits) where
   closed-leads p t ns n d c o sign.End e = absurd (byte-of d c sign.End e)
   closed-leads p t ns n d c o sign.Other e = tt
 
-  stands-lead : {p : List Token} {q : State} → Stands p q → Limited L (q .nodes) (q .spot) → (x : Token) → Leads L p x (turn L q x)
+  stands-lead : {p : List Token} {q : State} → Stands p q → Limited L (q .nodes) (q .spot) → (x : Token) →
+      Leads L p x (turn L q x)
   stands-lead (in-the-head x) h (Byte d c o) = head-leads x d c o (sign-of d c) refl
   stands-lead (in-the-head x) h (Gap o) = tt
   stands-lead (in-the-head x) h (End o) = tt
@@ -96,7 +105,8 @@ module _ (L : Limits) where
         few = h .0;
         fits = h .1;
         whole = subst (λ v. Whole v t (ns ++ us) n)
-            (ap (λ v. s ++ v) (sym (append-assoc u (Byte 41 e at ∷ []) (End o ∷ []))) ∙ sym (append-assoc s (u ++ Byte 41 e at ∷ []) (End o ∷ [])))
+            (ap (λ v. s ++ v) (sym (append-assoc u (Byte 41 e at ∷ []) (End o ∷ [])))
+            ∙ sym (append-assoc s (u ++ Byte 41 e at ∷ []) (End o ∷ [])))
             (several x y e at o);
       }
 

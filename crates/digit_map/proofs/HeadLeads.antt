@@ -21,7 +21,8 @@ use Rattle.digit_map.specs.Grammar.{Begun, colon, one, two, FieldText, short, 
 use Rattle.digit_map.specs.Standing.{Stands, in-the-head, in-a-field}
 use Rattle.digit_map.proofs.Leads.{Leads, regroup}
 
-module _ (L : Limits) {s : List Token} {t : Timers} {k : ℕ} (head : Head s t k) (i : Field) (low : k ≤ rank i) (at b : ℕ) (c : Bool) (o : ℕ) where
+module _ (L : Limits) {s : List Token} {t : Timers} {k : ℕ} (head : Head s t k) (i : Field)
+    (low : k ≤ rank i) (at b : ℕ) (c : Bool) (o : ℕ) where
   abbrev Good : List Token → FieldTurn → Type 0
   Good u x = Leads L (s ++ u) (Byte b c o) (fielded t i at x)
 
@@ -34,15 +35,20 @@ module _ (L : Limits) {s : List Token} {t : Timers} {k : ℕ} (head : Head s t k
   pub field-leads : {u : List Token} {d : Digits} → Begun u i at d → Good u (field-turn i d b)
   field-leads {u = u} {d = Letter} y =
       cond-both (eqb b 58) _ _ (Good u)
-      (λ e. goes-on u (subst (λ v. Begun (u ++ Byte v c o ∷ []) i at Colon) (sym (eqb-true b 58 e)) (colon y c o))) (λ _. tt)
-  field-leads {u = u} {d = Colon} y = cond-both (digit b) _ _ (Good u) (λ e. goes-on u (one y b c o e)) (λ _. tt)
+      (λ e. goes-on u (subst (λ v. Begun (u ++ Byte v c o ∷ []) i at Colon) (sym (eqb-true b 58 e))
+      (colon y c o))) (λ _. tt)
+  field-leads {u = u} {d = Colon} y = cond-both (digit b) _ _ (Good u) (λ e. goes-on u (one y b c o e))
+      (λ _. tt)
   field-leads {u = u} {d = One d} y =
       cond-both (digit b && fits i (10 * d + (b - 48))) _ _ (Good u)
-      (λ e. let h = and-parts (digit b) (fits i (10 * d + (b - 48))) e in goes-on u (two y b c o (h .0) (h .1)))
+      (λ e. let h = and-parts (digit b) (fits i (10 * d + (b - 48))) e in
+      goes-on u (two y b c o (h .0) (h .1)))
       (λ _. cond-both (eqb b 44 && fits i d) _ _ (Good u)
       (λ e. let h = and-parts (eqb b 44) (fits i d) e in
-      ends u (subst (λ v. FieldText (u ++ Byte v c o ∷ []) i d) (sym (eqb-true b 44 (h .0))) (short y (h .1) c o)))
+      ends u (subst (λ v. FieldText (u ++ Byte v c o ∷ []) i d) (sym (eqb-true b 44 (h .0)))
+      (short y (h .1) c o)))
       (λ _. tt))
   field-leads {u = u} {d = Two v} y =
       cond-both (eqb b 44) _ _ (Good u)
-      (λ e. ends u (subst (λ w. FieldText (u ++ Byte w c o ∷ []) i v) (sym (eqb-true b 44 e)) (long y c o))) (λ _. tt)
+      (λ e. ends u (subst (λ w. FieldText (u ++ Byte w c o ∷ []) i v) (sym (eqb-true b 44 e)) (long y c o)))
+      (λ _. tt)

@@ -29,6 +29,7 @@ pub mod Blamed
 pub mod Shaped
 pub mod Decided
 pub mod KeyedPlaces
+pub mod Propers
 pub mod Meanings
 pub mod Placeless
 pub mod Wider

@@ -160,4 +160,8 @@ gap-shows (b ∷ bs) (some w ws) j o a p r offset q =
     shows-there w ws b bs j o (a .0) (gap-shows bs) (blank b) refl (a .1) p r offset q
 
 pub gap-misplaced : (text : List ℕ) (o : ℕ) → GapAt text o
-gap-misplaced text o = record { misplaced = λ p r e. gap-shows text none false 0 tt p r o e; shown = misplaced-gap text o }
+gap-misplaced text o = record {
+  misplaced = λ p r e. gap-shows text none false 0 tt p r o e;
+  shown =
+      misplaced-gap text o;
+}

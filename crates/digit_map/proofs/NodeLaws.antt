@@ -9,7 +9,8 @@ use Rattle.std.specs.declared.option.Option.{Option}
 use Rattle.std.specs.declared.option.Option.the-variants.{Some, None}
 use Rattle.digit_map.specs.declared.node.Position.{Position}
 use Rattle.digit_map.specs.declared.node.Node.{Node}
-use Rattle.digit_map.specs.Nodes.{some-position, no-position, count-positions, count-ends, with-dot, dotted-node, dot-last, needed, needs-key}
+use Rattle.digit_map.specs.Nodes.{some-position, no-position, count-positions, count-ends, with-dot}
+use Rattle.digit_map.specs.Nodes.{dotted-node, dot-last, needed, needs-key}
 
 -- a list with something in it
 abbrev pub Filled : {A : Type 0} → List A → Type 0
@@ -22,11 +23,13 @@ filled-push (x ∷ xs) y ys = tt
 
 pub positions-++ : (a b : List Node) → count-positions (a ++ b) ≡ count-positions a + count-positions b
 positions-++ [] b = sym (zero-add (count-positions b))
-positions-++ (n ∷ a) b = ap (λ k. some-position (n .awaits) + k) (positions-++ a b) ∙ sym (add-assoc (some-position (n .awaits)) (count-positions a) (count-positions b))
+positions-++ (n ∷ a) b = ap (λ k. some-position (n .awaits) + k) (positions-++ a b)
+    ∙ sym (add-assoc (some-position (n .awaits)) (count-positions a) (count-positions b))
 
 pub ends-++ : (a b : List Node) → count-ends (a ++ b) ≡ count-ends a + count-ends b
 ends-++ [] b = sym (zero-add (count-ends b))
-ends-++ (n ∷ a) b = ap (λ k. no-position (n .awaits) + k) (ends-++ a b) ∙ sym (add-assoc (no-position (n .awaits)) (count-ends a) (count-ends b))
+ends-++ (n ∷ a) b = ap (λ k. no-position (n .awaits) + k) (ends-++ a b)
+    ∙ sym (add-assoc (no-position (n .awaits)) (count-ends a) (count-ends b))
 
 or-assoc : (x y z : Bool) → (x || (y || z)) ≡ ((x || y) || z)
 or-assoc true y z = refl
@@ -34,7 +37,8 @@ or-assoc false y z = refl
 
 pub needs-++ : (a b : List Node) → needs-key (a ++ b) ≡ (needs-key a || needs-key b)
 needs-++ [] b = refl
-needs-++ (n ∷ a) b = ap (λ x. needed (n .awaits) || x) (needs-++ a b) ∙ or-assoc (needed (n .awaits)) (needs-key a) (needs-key b)
+needs-++ (n ∷ a) b = ap (λ x. needed (n .awaits) || x) (needs-++ a b)
+    ∙ or-assoc (needed (n .awaits)) (needs-key a) (needs-key b)
 
 pub dot-last-++ : (a b : List Node) → Filled b → dot-last (a ++ b) ≡ a ++ dot-last b
 dot-last-++ [] b h = refl

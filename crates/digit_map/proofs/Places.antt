@@ -10,7 +10,8 @@ use Rattle.std.proofs.shelf.Lists.{take-more, take-more-set, length-take-le}
 use Rattle.digit_map.specs.declared.node.Position.{Position}
 use Rattle.digit_map.specs.declared.node.Node.{Node}
 use Rattle.digit_map.proofs.NodeLaws.{positions-++, ends-++, dot-last-++}
-use Rattle.digit_map.specs.Nodes.{some-position, no-position, count-positions, count-ends, with-dot, dotted-node, dot-last}
+use Rattle.digit_map.specs.Nodes.{some-position, no-position, count-positions, count-ends, with-dot}
+use Rattle.digit_map.specs.Nodes.{dotted-node, dot-last}
 
 position-or-end : (o : Option Position) → some-position o + no-position o ≡ 1
 position-or-end (Some p) = refl

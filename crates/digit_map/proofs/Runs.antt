@@ -73,7 +73,8 @@ went-byte text base after L n u d g x h =
     ∙ ap (went L (g d)) (byte-behind n u d text base after x h)
 
 module _ (L : Limits) where
-  went-join : (p r : List Token) (q : State) → ((s : State) → run L s p ≡ on q → run L s (p ++ r) ≡ run L q r) →
+  went-join : (p r : List Token) (q : State) →
+      ((s : State) → run L s p ≡ on q → run L s (p ++ r) ≡ run L q r) →
       (x : Turn) → went L x p ≡ on q → went L x (p ++ r) ≡ run L q r
   went-join p r q below (on w) e = below w e
   went-join p r q below (done t ns) e = let z : _≡_ {A = ℕ} 0 1 = cc in absurd (omega arith)
@@ -84,10 +85,12 @@ module _ (L : Limits) where
   run-join [] r s q e = let d : s ≡ q = cc in ap (λ w. run L w r) d
   run-join (x ∷ p) r s q e = went-join p r q (λ w. run-join p r w q) (turn L s x) e
 
-  pub run-chain : (p r : List Token) (s q w : State) → run L s p ≡ on q → run L q r ≡ on w → run L s (p ++ r) ≡ on w
+  pub run-chain : (p r : List Token) (s q w : State) → run L s p ≡ on q → run L q r ≡ on w →
+      run L s (p ++ r) ≡ on w
   run-chain p r s q w e f = run-join p r s q e ∙ f
 
-  pub run-step : (p : List Token) (x : Token) (s q w : State) → run L s p ≡ on q → turn L q x ≡ on w → run L s (p ++ x ∷ []) ≡ on w
+  pub run-step : (p : List Token) (x : Token) (s q w : State) → run L s p ≡ on q → turn L q x ≡ on w →
+      run L s (p ++ x ∷ []) ≡ on w
   run-step p x s q w e f = run-chain p (x ∷ []) s q w e (run-on L q w x [] f)
 
   -- tokens taken as a whole are taken one part behind the other

@@ -43,37 +43,48 @@ record Closes (v : List Token) (k : ℕ) : Type 0 where
   keys : k ≡ bitOr before extra
 
 closed-by : {v w : List Token} {m n : ℕ} → Members v m → g.Member w n → Closes (v ++ w) (bitOr m n)
-closed-by {v = v} {w = w} {m = m} {n = n} ms x = record { front = v; last = w; before = m; extra = n; members = ms; final = x; is = refl; keys = refl }
+closed-by {v = v} {w = w} {m = m} {n = n} ms x =
+    record { front = v; last = w; before = m; extra = n; members = ms; final = x; is = refl; keys = refl }
 
-module _ (L : Limits) {s u : List Token} {t : Timers} {bracketed l : Bool} {n : ℕ} {ns us : List Node} {p : Progress}
-    (front : Front s t bracketed n ns) (read : Read u us l p) (few : n ≤ L .alternatives) (room : count-positions (ns ++ us) < L .positions)
+module _ (L : Limits) {s u : List Token} {t : Timers} {bracketed l : Bool} {n : ℕ} {ns us : List Node}
+    {p : Progress}
+    (front : Front s t bracketed n ns) (read : Read u us l p) (few : n ≤ L .alternatives)
+    (room : count-positions (ns ++ us) < L .positions)
     (d : Bool) (at b : ℕ) (c : Bool) (o : ℕ) where
   abbrev Good : List Token → SetTurn → Type 0
-  Good v x = Leads L (s ++ (u ++ Byte 91 d at ∷ v)) (Byte b c o) (in-set-turned t (ns ++ us) (frame bracketed n) p l at x)
+  Good v x = Leads L (s ++ (u ++ Byte 91 d at ∷ v)) (Byte b c o)
+      (in-set-turned t (ns ++ us) (frame bracketed n) p l at x)
 
   goes-on : (v : List Token) {q : Place} {k : ℕ} → Inside (v ++ Byte b c o ∷ []) q k → Good v (On q k)
   goes-on v {q = q} {k = k} x =
       regroup L s (u ++ Byte 91 d at ∷ v) (Byte b c o)
-      (subst (λ w. Stands (s ++ w) (state t (ns ++ us) (in-set (frame bracketed n) p l at q k))) (sym (append-assoc u (Byte 91 d at ∷ v) (Byte b c o ∷ []))) (in-a-set front read d at x)) (few, room)
+      (subst (λ w. Stands (s ++ w) (state t (ns ++ us) (in-set (frame bracketed n) p l at q k)))
+      (sym (append-assoc u (Byte 91 d at ∷ v) (Byte b c o ∷ []))) (in-a-set front read d at x))
+      (few, room)
 
   one-more : (x : Node) → count-positions (x ∷ []) ≡ 1 → count-positions ((ns ++ us) ++ x ∷ []) ≤ L .positions
   one-more x e = let a = positions-++ (ns ++ us) (x ∷ []) in omega arith
 
   abbrev state-behind : ℕ → State
-  state-behind k = state t ((ns ++ us) ++ awaiting (position k l false) (p .mark) (p .marked) ∷ []) (in-alternative (frame bracketed n) (onward p at (p .mark) false last.Position))
+  state-behind k = state t ((ns ++ us) ++ awaiting (position k l false) (p .mark) (p .marked) ∷ [])
+      (in-alternative (frame bracketed n) (onward p at (p .mark) false last.Position))
 
   closes : (v : List Token) {k : ℕ} → Closes v k → eqb b 93 ≡ true → Good v (Done k)
   closes v {k = k} x e =
-      let w : Byte 91 d at ∷ ((x .front ++ x .last) ++ Byte 93 c o ∷ []) ≡ (Byte 91 d at ∷ v) ++ Byte b c o ∷ [] =
+      let w : Byte 91 d at ∷ ((x .front ++ x .last) ++ Byte 93 c o ∷ [])
+      ≡ (Byte 91 d at ∷ v) ++ Byte b c o ∷ [] =
       cc (x .is, eqb-true b 93 e) in
       let y = behind-position front read (set d at (x .members) (x .final) c o) in
       regroup L s (u ++ Byte 91 d at ∷ v) (Byte b c o)
-      (subst (λ z. Stands (s ++ z) (state-behind k)) (ap (λ z. u ++ z) w ∙ sym (append-assoc u (Byte 91 d at ∷ v) (Byte b c o ∷ [])))
-      (subst (λ z. Stands (s ++ (u ++ Byte 91 d at ∷ ((x .front ++ x .last) ++ Byte 93 c o ∷ []))) (state-behind z)) (sym (x .keys)) y))
+      (subst (λ z. Stands (s ++ z) (state-behind k))
+      (ap (λ z. u ++ z) w ∙ sym (append-assoc u (Byte 91 d at ∷ v) (Byte b c o ∷ [])))
+      (subst (λ z. Stands (s ++ (u ++ Byte 91 d at ∷ ((x .front ++ x .last) ++ Byte 93 c o ∷ [])))
+      (state-behind z)) (sym (x .keys)) y))
       (few, one-more (awaiting (position k l false) (p .mark) (p .marked)) refl)
 
   -- where a member may begin
-  member-leads : {v : List Token} {m : ℕ} → Members v m → (close : SetTurn) → (eqb b 93 ≡ true → Good v close) → Good v (at-member m b close)
+  member-leads : {v : List Token} {m : ℕ} → Members v m → (close : SetTurn) →
+      (eqb b 93 ≡ true → Good v close) → Good v (at-member m b close)
   member-leads {v = v} {m = m} ms close h =
       cond-both (digit b) _ _ (Good v) (λ e. goes-on v (st.digit-more ms b c o e))
       (λ _. cond-both (key-letter b) _ _ (Good v) (λ e. goes-on v (st.letter ms b c o e))
@@ -85,18 +96,24 @@ module _ (L : Limits) {s u : List Token} {t : Timers} {bracketed l : Bool} {n : 
   pub set-leads : {v : List Token} {q : Place} {k : ℕ} → Inside v q k → Good v (set-turn q k b)
   set-leads st.start = member-leads none Bad (λ _. tt)
   set-leads (st.letter {s = v} ms a e w x) =
-      member-leads (more ms (one-letter a e w x)) (Done _) (closes (v ++ Byte a e w ∷ []) (closed-by ms (one-letter a e w x)))
+      member-leads (more ms (one-letter a e w x)) (Done _)
+      (closes (v ++ Byte a e w ∷ []) (closed-by ms (one-letter a e w x)))
   set-leads (st.range {s = v} ms a e w f y i j z x h le) =
-      member-leads (more ms (g.range a e w f y i j z x h le)) (Done _) (closes (v ++ Byte a e w ∷ Byte 45 f y ∷ Byte i j z ∷ []) (closed-by ms (g.range a e w f y i j z x h le)))
+      member-leads (more ms (g.range a e w f y i j z x h le)) (Done _)
+      (closes (v ++ Byte a e w ∷ Byte 45 f y ∷ Byte i j z ∷ [])
+      (closed-by ms (g.range a e w f y i j z x h le)))
   set-leads (st.digit-more {s = v} {m = m} ms a e w x) =
       cond-both (eqb b 45) _ _ (Good (v ++ Byte a e w ∷ []))
       (λ h. goes-on (v ++ Byte a e w ∷ [])
       (subst (λ z. Inside z (From (a - 48)) m) (sym (append-assoc v (Byte a e w ∷ []) (Byte b c o ∷ [])))
-      (subst (λ z. Inside (v ++ Byte a e w ∷ Byte z c o ∷ []) (From (a - 48)) m) (sym (eqb-true b 45 h)) (st.hyphen ms a e w x c o))))
-      (λ _. member-leads (more ms (one-digit a e w x)) (Done _) (closes (v ++ Byte a e w ∷ []) (closed-by ms (one-digit a e w x))))
+      (subst (λ z. Inside (v ++ Byte a e w ∷ Byte z c o ∷ []) (From (a - 48)) m) (sym (eqb-true b 45 h))
+      (st.hyphen ms a e w x c o))))
+      (λ _. member-leads (more ms (one-digit a e w x)) (Done _)
+      (closes (v ++ Byte a e w ∷ []) (closed-by ms (one-digit a e w x))))
   set-leads (st.hyphen {s = v} {m = m} ms a e w x f y) =
       cond-both (digit b && leb (a - 48) (b - 48)) _ _ (Good (v ++ Byte a e w ∷ Byte 45 f y ∷ []))
       (λ h. goes-on (v ++ Byte a e w ∷ Byte 45 f y ∷ [])
-      (subst (λ z. Inside z Member (bitOr m (span (a - 48) (b - 48)))) (sym (append-assoc v (Byte a e w ∷ Byte 45 f y ∷ []) (Byte b c o ∷ [])))
+      (subst (λ z. Inside z Member (bitOr m (span (a - 48) (b - 48))))
+      (sym (append-assoc v (Byte a e w ∷ Byte 45 f y ∷ []) (Byte b c o ∷ [])))
       (st.range ms a e w f y b c o x (and-parts (digit b) (leb (a - 48) (b - 48)) h .0) (reaches a x h))))
       (λ _. tt)

@@ -56,19 +56,22 @@ free Member h = tt
 free (Digit d) h = tt
 free (From d) h = absurd h
 
-digit-turn : (p : Place) (m a : ℕ) → Free p → digit a ≡ true → set-turn p m a ≡ On (Digit (a - 48)) (flushed p m)
+digit-turn : (p : Place) (m a : ℕ) → Free p → digit a ≡ true →
+    set-turn p m a ≡ On (Digit (a - 48)) (flushed p m)
 digit-turn Start m a h e = grind (arith, tells)
 digit-turn Member m a h e = grind (arith, tells)
 digit-turn (Digit d) m a h e = grind (arith, tells)
 digit-turn (From d) m a h e = absurd h
 
-letter-turn : (p : Place) (m a : ℕ) → Free p → key-letter a ≡ true → set-turn p m a ≡ On Member (bitOr (flushed p m) (2 ^ letter-key a))
+letter-turn : (p : Place) (m a : ℕ) → Free p → key-letter a ≡ true →
+    set-turn p m a ≡ On Member (bitOr (flushed p m) (2 ^ letter-key a))
 letter-turn Start m a h e = grind (arith, tells)
 letter-turn Member m a h e = grind (arith, tells)
 letter-turn (Digit d) m a h e = grind (arith, tells)
 letter-turn (From d) m a h e = absurd h
 
-range-turn : (a b m : ℕ) → digit a ≡ true → digit b ≡ true → a ≤ b → set-turn (From (a - 48)) m b ≡ On Member (bitOr m (span (a - 48) (b - 48)))
+range-turn : (a b m : ℕ) → digit a ≡ true → digit b ≡ true → a ≤ b → set-turn (From (a - 48)) m b
+    ≡ On Member (bitOr m (span (a - 48) (b - 48)))
 range-turn a b m e f h = grind (arith, tells)
 
 close-turn : (p : Place) (m : ℕ) → Closing p → set-turn p m 93 ≡ Done (flushed p m)
@@ -82,8 +85,10 @@ module _ (L : Limits) (t : Timers) (ns : List Node) (f : Frame) (p : Progress) (
   inside q k = state t ns (in-set f p l at q k)
 
   -- a byte inside a set
-  byte-pass : (q w : Place) (k n b : ℕ) (c : Bool) (o : ℕ) → set-turn q k b ≡ On w n → run L (inside q k) (Byte b c o ∷ []) ≡ on (inside w n)
-  byte-pass q w k n b c o e = run-on L (inside q k) (inside w n) (Byte b c o) [] (ap (in-set-turned t ns f p l at) e)
+  byte-pass : (q w : Place) (k n b : ℕ) (c : Bool) (o : ℕ) → set-turn q k b ≡ On w n →
+      run L (inside q k) (Byte b c o ∷ []) ≡ on (inside w n)
+  byte-pass q w k n b c o e = run-on L (inside q k) (inside w n) (Byte b c o) []
+      (ap (in-set-turned t ns f p l at) e)
 
   -- where members have been passed, with the keys n
   pub record Passed (q : Place) (k : ℕ) (u : List Token) (n : ℕ) : Type 0 where
@@ -93,20 +98,39 @@ module _ (L : Limits) (t : Timers) (ns : List Node) (f : Frame) (p : Progress) (
     pub all : flushed stop keys ≡ n
     pub goes : run L (inside q k) u ≡ on (inside stop keys)
 
-  range-pass : (q : Place) (k : ℕ) → Free q → (a : ℕ) (c : Bool) (o : ℕ) (d : Bool) (w : ℕ) (b : ℕ) (e : Bool) (z : ℕ) →
+  range-pass : (q : Place) (k : ℕ) → Free q →
+      (a : ℕ) (c : Bool) (o : ℕ) (d : Bool) (w : ℕ) (b : ℕ) (e : Bool) (z : ℕ) →
       digit a ≡ true → digit b ≡ true → a ≤ b →
-      run L (inside q k) (Byte a c o ∷ Byte 45 d w ∷ Byte b e z ∷ []) ≡ on (inside Member (bitOr (flushed q k) (span (a - 48) (b - 48))))
+      run L (inside q k) (Byte a c o ∷ Byte 45 d w ∷ Byte b e z ∷ [])
+      ≡ on (inside Member (bitOr (flushed q k) (span (a - 48) (b - 48))))
   range-pass q k h a c o d w b e z x y le =
-      run-chain L (Byte a c o ∷ []) (Byte 45 d w ∷ Byte b e z ∷ []) (inside q k) (inside (Digit (a - 48)) (flushed q k)) _
+      run-chain L (Byte a c o ∷ []) (Byte 45 d w ∷ Byte b e z ∷ []) (inside q k)
+      (inside (Digit (a - 48)) (flushed q k)) _
       (byte-pass q _ k _ a c o (digit-turn q k a h x))
-      (run-chain L (Byte 45 d w ∷ []) (Byte b e z ∷ []) (inside (Digit (a - 48)) (flushed q k)) (inside (From (a - 48)) (flushed q k)) _ refl
+      (run-chain L (Byte 45 d w ∷ []) (Byte b e z ∷ []) (inside (Digit (a - 48)) (flushed q k))
+      (inside (From (a - 48)) (flushed q k)) _ refl
       (byte-pass (From (a - 48)) Member (flushed q k) _ b e z (range-turn a b (flushed q k) x y le)))
 
-  pub member-pass : (q : Place) (k : ℕ) → Free q → {u : List Token} {n : ℕ} → g.Member u n → Passed q k u (bitOr (flushed q k) n)
+  pub member-pass : (q : Place) (k : ℕ) → Free q → {u : List Token} {n : ℕ} → g.Member u n →
+      Passed q k u (bitOr (flushed q k) n)
   member-pass q k h (one-digit a c o e) =
-      record { stop = Digit (a - 48); keys = flushed q k; closing = tt; all = refl; goes = byte-pass q _ k _ a c o (digit-turn q k a h e) }
+      record {
+        stop = Digit (a - 48);
+        keys = flushed q k;
+        closing = tt;
+        all = refl;
+        goes =
+            byte-pass q _ k _ a c o (digit-turn q k a h e);
+      }
   member-pass q k h (one-letter a c o e) =
-      record { stop = Member; keys = bitOr (flushed q k) (2 ^ letter-key a); closing = tt; all = refl; goes = byte-pass q _ k _ a c o (letter-turn q k a h e) }
+      record {
+        stop = Member;
+        keys = bitOr (flushed q k) (2 ^ letter-key a);
+        closing = tt;
+        all = refl;
+        goes =
+            byte-pass q _ k _ a c o (letter-turn q k a h e);
+      }
   member-pass q k h (range a c o d w b e z x y le) =
       record {
         stop = Member;
@@ -127,7 +151,8 @@ module _ (L : Limits) (t : Timers) (ns : List Node) (f : Frame) (p : Progress) (
   members-pass none = record { stop = Start; keys = 0; open-to = tt; all = refl; goes = refl }
   members-pass (more {s = s} {t = u} {m = m} {n = n} ms x) =
       let b : Begun s m = members-pass ms in
-      let y : Passed (b .stop) (b .keys) u (bitOr (flushed (b .stop) (b .keys)) n) = member-pass (b .stop) (b .keys) (b .open-to) x in
+      let y : Passed (b .stop) (b .keys) u (bitOr (flushed (b .stop) (b .keys)) n) =
+      member-pass (b .stop) (b .keys) (b .open-to) x in
       record {
         stop = y .stop;
         keys = y .keys;
@@ -139,33 +164,43 @@ module _ (L : Limits) (t : Timers) (ns : List Node) (f : Frame) (p : Progress) (
   -- a set from behind its opening bracket to behind its closing one
   pub set-pass : {s u : List Token} {m n : ℕ} → Members s m → g.Member u n → (d : Bool) (w : ℕ) →
       run L (inside Start 0) ((s ++ u) ++ Byte 93 d w ∷ [])
-      ≡ on (state t (ns ++ awaiting (position (bitOr m n) l false) (p .mark) (p .marked) ∷ []) (in-alternative f (onward p at (p .mark) false last.Position)))
+      ≡ on (state t (ns ++ awaiting (position (bitOr m n) l false) (p .mark) (p .marked) ∷ [])
+      (in-alternative f (onward p at (p .mark) false last.Position)))
   set-pass {s = s} {u = u} {m = m} {n = n} ms x d w =
       let b : Begun s m = members-pass ms in
-      let y : Passed (b .stop) (b .keys) u (bitOr (flushed (b .stop) (b .keys)) n) = member-pass (b .stop) (b .keys) (b .open-to) x in
+      let y : Passed (b .stop) (b .keys) u (bitOr (flushed (b .stop) (b .keys)) n) =
+      member-pass (b .stop) (b .keys) (b .open-to) x in
       let e : flushed (y .stop) (y .keys) ≡ bitOr m n = y .all ∙ ap (λ k. bitOr k n) (b .all) in
       run-step L (s ++ u) (Byte 93 d w) (inside Start 0) (inside (y .stop) (y .keys)) _
       (run-chain L s u (inside Start 0) (inside (b .stop) (b .keys)) _ (b .goes) (y .goes))
-      (ap (in-set-turned t ns f p l at) (close-turn (y .stop) (y .keys) (y .closing)) ∙ ap (λ k. in-set-turned t ns f p l at (Done k)) e)
+      (ap (in-set-turned t ns f p l at) (close-turn (y .stop) (y .keys) (y .closing))
+      ∙ ap (λ k. in-set-turned t ns f p l at (Done k)) e)
 
   -- the inside of a set as far as it is read
-  pub inside-pass : {v : List Token} {q : Place} {k : ℕ} → Inside v q k → run L (inside Start 0) v ≡ on (inside q k)
+  pub inside-pass : {v : List Token} {q : Place} {k : ℕ} → Inside v q k → run L (inside Start 0) v
+      ≡ on (inside q k)
   inside-pass st.start = refl
   inside-pass (st.letter {s = s} {m = m} ms a c o e) =
       let b : Begun s m = members-pass ms in
       run-chain L s (Byte a c o ∷ []) (inside Start 0) (inside (b .stop) (b .keys)) _ (b .goes)
-      (byte-pass (b .stop) Member (b .keys) _ a c o (letter-turn (b .stop) (b .keys) a (b .open-to) e ∙ ap (λ k. On Member (bitOr k (2 ^ letter-key a))) (b .all)))
+      (byte-pass (b .stop) Member (b .keys) _ a c o
+      (letter-turn (b .stop) (b .keys) a (b .open-to) e
+      ∙ ap (λ k. On Member (bitOr k (2 ^ letter-key a))) (b .all)))
   inside-pass (st.digit-more {s = s} {m = m} ms a c o e) =
       let b : Begun s m = members-pass ms in
       run-chain L s (Byte a c o ∷ []) (inside Start 0) (inside (b .stop) (b .keys)) _ (b .goes)
-      (byte-pass (b .stop) _ (b .keys) _ a c o (digit-turn (b .stop) (b .keys) a (b .open-to) e ∙ ap (On (Digit (a - 48))) (b .all)))
+      (byte-pass (b .stop) _ (b .keys) _ a c o
+      (digit-turn (b .stop) (b .keys) a (b .open-to) e ∙ ap (On (Digit (a - 48))) (b .all)))
   inside-pass (st.hyphen {s = s} {m = m} ms a c o e d w) =
       let b : Begun s m = members-pass ms in
       run-chain L s (Byte a c o ∷ Byte 45 d w ∷ []) (inside Start 0) (inside (b .stop) (b .keys)) _ (b .goes)
-      (run-chain L (Byte a c o ∷ []) (Byte 45 d w ∷ []) (inside (b .stop) (b .keys)) (inside (Digit (a - 48)) m) _
-      (byte-pass (b .stop) _ (b .keys) _ a c o (digit-turn (b .stop) (b .keys) a (b .open-to) e ∙ ap (On (Digit (a - 48))) (b .all))) refl)
+      (run-chain L (Byte a c o ∷ []) (Byte 45 d w ∷ []) (inside (b .stop) (b .keys))
+      (inside (Digit (a - 48)) m) _
+      (byte-pass (b .stop) _ (b .keys) _ a c o
+      (digit-turn (b .stop) (b .keys) a (b .open-to) e ∙ ap (On (Digit (a - 48))) (b .all))) refl)
   inside-pass (st.range {s = s} {m = m} ms a c o d w b e z x y le) =
       let r : Begun s m = members-pass ms in
-      run-chain L s (Byte a c o ∷ Byte 45 d w ∷ Byte b e z ∷ []) (inside Start 0) (inside (r .stop) (r .keys)) _ (r .goes)
+      run-chain L s (Byte a c o ∷ Byte 45 d w ∷ Byte b e z ∷ []) (inside Start 0)
+      (inside (r .stop) (r .keys)) _ (r .goes)
       (range-pass (r .stop) (r .keys) (r .open-to) a c o d w b e z x y le
       ∙ ap (λ k. on (inside Member (bitOr k (span (a - 48) (b - 48))))) (r .all))

@@ -61,7 +61,8 @@ Lettered b sign.Dot = Unit {0}
 Lettered b sign.End = Unit {0}
 Lettered b sign.Other = Unit {0}
 
-named-letter : (b : ℕ) (l : ℕ) (c : Bool) → (letter l b ≡ true → field-letter b ≡ true) → (letter l b && c) ≡ true → field-letter b ≡ true
+named-letter : (b : ℕ) (l : ℕ) (c : Bool) → (letter l b ≡ true → field-letter b ≡ true) →
+    (letter l b && c) ≡ true → field-letter b ≡ true
 named-letter b l c f h = f (and-parts (letter l b) c h .0)
 
 lettered : (b : ℕ) (c : Bool) → Lettered b (sign-of b c)
@@ -70,9 +71,13 @@ lettered b c =
     (λ _. cond-both (key-letter b) _ _ (Lettered b) (λ _. tt)
     (λ _. cond-both (letter 88 b) _ _ (Lettered b) (λ _. tt)
     (λ _. cond-both (letter 84 b && c) _ _ (Lettered b) (named-letter b 84 c (or-left _ _))
-    (λ _. cond-both (letter 83 b && c) _ _ (Lettered b) (named-letter b 83 c (λ h. or-right (letter 84 b) _ (or-left _ _ h)))
-    (λ _. cond-both (letter 76 b && c) _ _ (Lettered b) (named-letter b 76 c (λ h. or-right (letter 84 b) _ (or-right (letter 83 b) _ (or-left _ _ h))))
-    (λ _. cond-both (letter 90 b && c) _ _ (Lettered b) (named-letter b 90 c (λ h. or-right (letter 84 b) _ (or-right (letter 83 b) _ (or-right (letter 76 b) _ h))))
+    (λ _. cond-both (letter 83 b && c) _ _ (Lettered b)
+    (named-letter b 83 c (λ h. or-right (letter 84 b) _ (or-left _ _ h)))
+    (λ _. cond-both (letter 76 b && c) _ _ (Lettered b)
+    (named-letter b 76 c (λ h. or-right (letter 84 b) _ (or-right (letter 83 b) _ (or-left _ _ h))))
+    (λ _. cond-both (letter 90 b && c) _ _ (Lettered b)
+    (named-letter b 90 c (λ h. or-right (letter 84 b) _
+    (or-right (letter 83 b) _ (or-right (letter 76 b) _ h))))
     (λ _. cond-both (letter 83 b) _ _ (Lettered b) (λ _. tt)
     (λ _. cond-both (letter 76 b) _ _ (Lettered b) (λ _. tt)
     (λ _. cond-both (letter 90 b) _ _ (Lettered b) (λ _. tt)

@@ -13,13 +13,13 @@ use Rattle.std.proofs.shelf.Ways.{tells}
 use Rattle.keypad.specs.declared.timers.Timers.{Timers}
 use Rattle.digit_map.specs.declared.fault.Cause.the-variants as cause
 use Rattle.digit_map.specs.declared.fault.Fault.{Fault}
-use Rattle.digit_map.specs.declared.map.Map.{Map}
+use Rattle.digit_map.specs.declared.draft.Draft.{Draft}
 use Rattle.digit_map.specs.Faults.{fault}
 use Rattle.digit_map.specs.Tokens.{tokens}
-use Rattle.digit_map.specs.Maps.{places}
+use Rattle.digit_map.specs.Drafts.{drafted}
 use Rattle.digit_map.specs.Limits.{sale}
 use Rattle.digit_map.specs.Turns.{done, bad, in-head, state, start, run}
-use Rattle.digit_map.specs.Reads.{HeadRead, AlternativesRead, sized, reads, MapRead}
+use Rattle.digit_map.specs.Reads.{HeadRead, AlternativesRead, sized, reads, DraftRead}
 
 -- the part behind the head, as the code hands it on
 abbrev pub tail : List ℕ → ℕ → List ℕ
@@ -34,8 +34,10 @@ module _ (text : List ℕ) (filled : false ≡ eqb (length text) 0) (below : len
       cond-true (sized text) (run sale start (tokens false 0 text)) (bad (fault cause.Length 0 0))
       (is-sized text filled below)
 
-  module _ (t : Timers) (head : ℕ) (m w : Map) (h : HeadRead text (Ok (t, head))) (same : m .timers ≡ t) where
-    by-tail : reads text ≡ run sale (state (m .timers) [] (in-head 4)) (tokens (ltb 0 head) head (tail text head))
+  module _ (t : Timers) (head : ℕ) (m w : Draft) (h : HeadRead text (Ok (t, head)))
+      (same : m .timers ≡ t) where
+    by-tail : reads text ≡ run sale (state (m .timers) [] (in-head 4))
+        (tokens (ltb 0 head) head (tail text head))
     by-tail =
         by-run
         ∙ (h .1
@@ -44,9 +46,9 @@ module _ (text : List ℕ) (filled : false ≡ eqb (length text) 0) (below : len
         (sym (take-rest text head))))
 
     pub whole-ok : {u : Unit {0}} → AlternativesRead (tail text head) head (ltb 0 head) m w (Ok u) →
-        MapRead text (Ok w)
-    whole-ok r = by-tail ∙ (r .1 ∙ ap (λ z. done z (places w)) (sym (r .0)))
+        DraftRead text (Ok w)
+    whole-ok r = by-tail ∙ (r .1 ∙ ap (λ z. done z (drafted w)) (sym (r .0)))
 
     pub whole-bad : {e : Fault} → AlternativesRead (tail text head) head (ltb 0 head) m w (Err e) →
-        MapRead text (Err e)
+        DraftRead text (Err e)
     whole-bad r = by-tail ∙ r

@@ -76,20 +76,26 @@ at-dot p o (last.Hold z) = Wrong cause.Affix z
 -- where an alternative may end, if `here`; `keyless` says that one that needs no key is at fault as such
 abbrev pub at-halt : Progress → ℕ → Bool → Bool → Last → Act
 at-halt p o here keyless last.Nothing = Wrong cause.Byte o
-at-halt p o here keyless last.Mark = cond (keyless && not (p .needs)) (Wrong cause.Keyless (p .first)) (cond here Halt (Wrong cause.Byte o))
+at-halt p o here keyless last.Mark = cond (keyless && not (p .needs)) (Wrong cause.Keyless (p .first))
+    (cond here Halt (Wrong cause.Byte o))
 at-halt p o here keyless last.Position = cond here Halt (Wrong cause.Byte o)
-at-halt p o here keyless last.Dot = cond (keyless && not (p .needs)) (Wrong cause.Keyless (p .first)) (cond here Halt (Wrong cause.Byte o))
+at-halt p o here keyless last.Dot = cond (keyless && not (p .needs)) (Wrong cause.Keyless (p .first))
+    (cond here Halt (Wrong cause.Byte o))
 at-halt p o here keyless (last.Hold z) = Wrong cause.Affix z
 
 abbrev pub acts : Limits → Frame → ℕ → Progress → Sign → ℕ → Act
 acts L f n p (sign.Keys k) o =
     if-held (p .last) (Put (position k true false) (onward p o (p .mark) false last.Position))
-    (cond (has-room L f n) (Put (position k false false) (onward p o (p .mark) false last.Position)) (Wrong cause.Excess o))
-acts L f n p (sign.Timer m) o = unless-held (p .last) (cond (in-number L f) (Go (onward p o m true last.Mark)) (Wrong cause.Excess o))
+    (cond (has-room L f n) (Put (position k false false) (onward p o (p .mark) false last.Position))
+    (Wrong cause.Excess o))
+acts L f n p (sign.Timer m) o = unless-held (p .last)
+    (cond (in-number L f) (Go (onward p o m true last.Mark)) (Wrong cause.Excess o))
 acts L f n p (sign.Field i) o = Wrong cause.Head o
 acts L f n p sign.Hold o =
-    unless-held (p .last) (cond (has-room L f n) (Go (onward p o (p .mark) (p .marked) (last.Hold o))) (Wrong cause.Excess o))
-acts L f n p sign.SetOpen o = if-held (p .last) (OpenSet true) (cond (has-room L f n) (OpenSet false) (Wrong cause.Excess o))
+    unless-held (p .last) (cond (has-room L f n) (Go (onward p o (p .mark) (p .marked) (last.Hold o)))
+    (Wrong cause.Excess o))
+acts L f n p sign.SetOpen o = if-held (p .last) (OpenSet true)
+    (cond (has-room L f n) (OpenSet false) (Wrong cause.Excess o))
 acts L f n p sign.Open o = unless-held (p .last) (Wrong cause.Byte o)
 acts L f n p sign.Close o = at-halt p o (f .bracketed) true (p .last)
 acts L f n p sign.Bar o = at-halt p o (f .bracketed) true (p .last)

@@ -43,7 +43,8 @@ pub record Continued (p : List Token) : Type 0 where
   pub nodes : List Node
   pub admitted : Admitted limits (front ++ back) timers nodes
 
--- what stands before the deciding token can still be continued to an admitted text, and with that token it cannot, unless the fault is one
+-- what stands before the deciding token can still be continued to an admitted text, and with that token it
+-- cannot, unless the fault is one
 -- of the limits
 pub record Turning {ts : List Token} {f : Fault} (d : Decides ts f) : Type 0 where
   pub continued : Continued (d .before)

@@ -24,17 +24,21 @@ use Rattle.digit_map.specs.Fields.{rank, fits, timed}
 
 -- a field from its letter, which stands at an offset, as far as its colon, its first digit or its second
 pub data Begun : List Token → Field → ℕ → Digits → Type 0 where
-  letter : (b : ℕ) (c : Bool) (o : ℕ) (i : Field) → sign-of b c ≡ sign.Field i → Begun (Byte b c o ∷ []) i o digits.Letter
+  letter : (b : ℕ) (c : Bool) (o : ℕ) (i : Field) → sign-of b c ≡ sign.Field i →
+      Begun (Byte b c o ∷ []) i o digits.Letter
   colon : {u : List Token} {i : Field} {at : ℕ} → Begun u i at digits.Letter → (c : Bool) (o : ℕ) →
       Begun (u ++ Byte 58 c o ∷ []) i at digits.Colon
-  one : {u : List Token} {i : Field} {at : ℕ} → Begun u i at digits.Colon → (b : ℕ) (c : Bool) (o : ℕ) → digit b ≡ true →
+  one : {u : List Token} {i : Field} {at : ℕ} → Begun u i at digits.Colon → (b : ℕ) (c : Bool) (o : ℕ) →
+      digit b ≡ true →
       Begun (u ++ Byte b c o ∷ []) i at (digits.One (b - 48))
-  two : {u : List Token} {i : Field} {at d : ℕ} → Begun u i at (digits.One d) → (b : ℕ) (c : Bool) (o : ℕ) → digit b ≡ true →
+  two : {u : List Token} {i : Field} {at d : ℕ} → Begun u i at (digits.One d) → (b : ℕ) (c : Bool) (o : ℕ) →
+      digit b ≡ true →
       fits i (10 * d + (b - 48)) ≡ true → Begun (u ++ Byte b c o ∷ []) i at (digits.Two (10 * d + (b - 48)))
 
 -- a field with its one or two digits and its comma, and its value, which is 0 only in T
 pub data FieldText : List Token → Field → ℕ → Type 0 where
-  short : {u : List Token} {i : Field} {at d : ℕ} → Begun u i at (digits.One d) → fits i d ≡ true → (c : Bool) (o : ℕ) →
+  short : {u : List Token} {i : Field} {at d : ℕ} → Begun u i at (digits.One d) → fits i d ≡ true →
+      (c : Bool) (o : ℕ) →
       FieldText (u ++ Byte 44 c o ∷ []) i d
   long : {u : List Token} {i : Field} {at v : ℕ} → Begun u i at (digits.Two v) → (c : Bool) (o : ℕ) →
       FieldText (u ++ Byte 44 c o ∷ []) i v
@@ -67,7 +71,8 @@ pub data Choice : List Token → ℕ → Type 0 where
 -- a position with an optional Z before it, which makes its steps long
 pub data Placed : List Token → ℕ → Bool → Type 0 where
   plain : {u : List Token} {k : ℕ} → Choice u k → Placed u k false
-  long : {u : List Token} {k : ℕ} (b : ℕ) (c : Bool) (o : ℕ) → sign-of b c ≡ sign.Hold → Choice u k → Placed (Byte b c o ∷ u) k true
+  long : {u : List Token} {k : ℕ} (b : ℕ) (c : Bool) (o : ℕ) → sign-of b c ≡ sign.Hold → Choice u k →
+      Placed (Byte b c o ∷ u) k true
 
 -- the last of some elements
 pub data Final : Type 0 where
@@ -82,35 +87,44 @@ is-mark mark = true
 is-mark place = false
 is-mark dot = false
 
--- elements one behind another: their places, the mark in force at their end, and the last of them. A mark is in force from where it stands
+-- elements one behind another: their places, the mark in force at their end, and the last of them. A mark is
+-- in force from where it stands
 -- to the next; a dot belongs to the position before it
 pub data Elements : List Token → List Node → Mark → Final → Type 0 where
   none : Elements [] [] Unmarked nothing
   mark-more : {s : List Token} {ns : List Node} {m : Mark} {e : Final} → Elements s ns m e →
-      (b : ℕ) (c : Bool) (o : ℕ) (k : Mark) → sign-of b c ≡ sign.Timer k → Elements (s ++ Byte b c o ∷ []) ns k mark
-  place-more : {s u : List Token} {ns : List Node} {m : Mark} {e : Final} {k : ℕ} {l : Bool} → Elements s ns m e → Placed u k l →
+      (b : ℕ) (c : Bool) (o : ℕ) (k : Mark) → sign-of b c ≡ sign.Timer k →
+      Elements (s ++ Byte b c o ∷ []) ns k mark
+  place-more : {s u : List Token} {ns : List Node} {m : Mark} {e : Final} {k : ℕ} {l : Bool} →
+      Elements s ns m e → Placed u k l →
       Elements (s ++ u) (ns ++ awaiting (position k l false) m (is-mark e) ∷ []) m place
   dot-more : {s : List Token} {ns : List Node} {m : Mark} → Elements s ns m place → (c : Bool) (o : ℕ) →
       Elements (s ++ Byte 46 c o ∷ []) (dot-last ns) m dot
 
 -- an alternative: elements that need a key; it is held exactly when a mark is the last
 pub data Alternative : List Token → List Node → Type 0 where
-  elements : {s : List Token} {ns : List Node} {m : Mark} {e : Final} → Elements s ns m e → needs-key ns ≡ true →
+  elements : {s : List Token} {ns : List Node} {m : Mark} {e : Final} → Elements s ns m e →
+      needs-key ns ≡ true →
       Alternative s (ns ++ ending m (is-mark e) ∷ [])
 
--- what stands before an alternative: a head, and if round brackets are open the alternatives before it, each with its bar; the timers,
+-- what stands before an alternative: a head, and if round brackets are open the alternatives before it, each
+-- with its bar; the timers,
 -- whether brackets are open, the alternative's number, and the places so far
 pub data Front : List Token → Timers → Bool → ℕ → List Node → Type 0 where
   bare : {s : List Token} {t : Timers} {k : ℕ} → Head s t k → Front s t false 1 []
-  opened : {s : List Token} {t : Timers} {k : ℕ} → Head s t k → (c : Bool) (o : ℕ) → Front (s ++ Byte 40 c o ∷ []) t true 1 []
-  barred : {s u : List Token} {t : Timers} {n : ℕ} {ns us : List Node} → Front s t true n ns → Alternative u us →
+  opened : {s : List Token} {t : Timers} {k : ℕ} → Head s t k → (c : Bool) (o : ℕ) →
+      Front (s ++ Byte 40 c o ∷ []) t true 1 []
+  barred : {s u : List Token} {t : Timers} {n : ℕ} {ns us : List Node} → Front s t true n ns →
+      Alternative u us →
       (c : Bool) (o : ℕ) → Front (s ++ (u ++ Byte 124 c o ∷ [])) t true (n + 1) (ns ++ us)
 
 -- a whole text: its timers, its places, and the number of its alternatives
 pub data Whole : List Token → Timers → List Node → ℕ → Type 0 where
-  single : {s u : List Token} {t : Timers} {n : ℕ} {ns us : List Node} → Front s t false n ns → Alternative u us →
+  single : {s u : List Token} {t : Timers} {n : ℕ} {ns us : List Node} → Front s t false n ns →
+      Alternative u us →
       (o : ℕ) → Whole (s ++ (u ++ End o ∷ [])) t (ns ++ us) n
-  several : {s u : List Token} {t : Timers} {n : ℕ} {ns us : List Node} → Front s t true n ns → Alternative u us →
+  several : {s u : List Token} {t : Timers} {n : ℕ} {ns us : List Node} → Front s t true n ns →
+      Alternative u us →
       (c : Bool) (o p : ℕ) → Whole (s ++ (u ++ Byte 41 c o ∷ End p ∷ [])) t (ns ++ us) n
 
 -- a whole text within the limits

@@ -3,6 +3,7 @@ pub mod Bytes
 pub mod Signs
 pub mod Tokens
 pub mod Nodes
+pub mod Drafts
 pub mod Maps
 pub mod Sets
 pub mod Fields
@@ -21,4 +22,5 @@ pub mod Offsets
 pub mod Masks
 pub mod Meaning
 pub mod Continues
+pub mod Proper
 pub mod Derives

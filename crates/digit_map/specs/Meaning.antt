@@ -23,15 +23,19 @@ symbol-of true k = Long k
 pub data Takes (p : Position) : Symbol → Type 0 where
   one-of : (k : ℕ) → k < 16 → has (p .keys) k ≡ true → Takes p (symbol-of (p .long) k)
 
--- an entry from a place of an alternative on: a position without a dot is one step, under the mark in force there; one with a dot is zero or
+-- an entry from a place of an alternative on: a position without a dot is one step, under the mark in force
+-- there; one with a dot is zero or
 -- more; the alternative's end closes the entry, held if a mark stands right before it
 pub data Says : List Node → Entry → Type 0 where
   closes : (m : Mark) (h : Bool) (ns : List Node) → Says (ending m h ∷ ns) (ended m h)
-  takes : (p : Position) (m : Mark) (h : Bool) {ns : List Node} {e : Entry} {s : Symbol} → p .dotted ≡ false → Takes p s → Says ns e →
+  takes : (p : Position) (m : Mark) (h : Bool) {ns : List Node} {e : Entry} {s : Symbol} →
+      p .dotted ≡ false → Takes p s → Says ns e →
       Says (awaiting p m h ∷ ns) (prepend (step s m) e)
-  repeats : (p : Position) (m : Mark) (h : Bool) {ns : List Node} {e : Entry} {s : Symbol} → p .dotted ≡ true → Takes p s →
+  repeats : (p : Position) (m : Mark) (h : Bool) {ns : List Node} {e : Entry} {s : Symbol} →
+      p .dotted ≡ true → Takes p s →
       Says (awaiting p m h ∷ ns) e → Says (awaiting p m h ∷ ns) (prepend (step s m) e)
-  skips : (p : Position) (m : Mark) (h : Bool) {ns : List Node} {e : Entry} → p .dotted ≡ true → Says ns e → Says (awaiting p m h ∷ ns) e
+  skips : (p : Position) (m : Mark) (h : Bool) {ns : List Node} {e : Entry} → p .dotted ≡ true → Says ns e →
+      Says (awaiting p m h ∷ ns) e
 
 -- whether an alternative begins behind the places: they are none, or the last is an alternative's end
 abbrev pub is-end : Option Position → Bool

@@ -1,7 +1,9 @@
 -- The places of alternatives. Assumes nothing.
+use mathlib.Core.Path.{_≡_}
 use mathlib.Core.Bool.{Bool, true, false, cond, not, _||_}
 use mathlib.Core.List.{List, [], _∷_, _++_}
-use Prim.Native.Nat.{ℕ, suc, _+_}
+use Prim.Native.Nat.{ℕ, suc, _+_, _<_, _≤_}
+use lib.ListN.{length, getD}
 use Rattle.std.specs.declared.option.Option.{Option}
 use Rattle.std.specs.declared.option.Option.the-variants.{Some, None}
 use Rattle.keypad.specs.declared.key.Mark.{Mark}
@@ -57,3 +59,8 @@ needed None = false
 abbrev pub needs-key : List Node → Bool
 needs-key [] = false
 needs-key (n ∷ ns) = needed (n .awaits) || needs-key ns
+
+-- what stands at an index: a place, or nothing behind the last
+abbrev pub PlaceAt : List Node → ℕ → Option Node → Type 0
+PlaceAt ns i None = length ns ≤ i
+PlaceAt ns i (Some n) = (i < length ns) × (n ≡ getD ns i n)

@@ -20,7 +20,7 @@ use Rattle.digit_map.specs.declared.token.Token.{Token}
 use Rattle.digit_map.specs.declared.token.Token.the-variants as token
 use Rattle.digit_map.specs.declared.token.Cursor.{Cursor}
 use Rattle.digit_map.specs.declared.node.Node.{Node}
-use Rattle.digit_map.specs.declared.map.Map.{Map}
+use Rattle.digit_map.specs.declared.draft.Draft.{Draft}
 use Rattle.digit_map.specs.declared.set.Place.the-variants as place
 use Rattle.digit_map.specs.declared.head.Digits.the-variants as digits
 use Rattle.digit_map.specs.declared.progress.Last.the-variants as last
@@ -30,11 +30,12 @@ use Rattle.digit_map.specs.Faults.{fault}
 use Rattle.digit_map.specs.Signs.{sign-of}
 use Rattle.digit_map.specs.Tokens.{tokens, rest}
 use Rattle.digit_map.specs.Nodes.{position, awaiting, count-ends}
-use Rattle.digit_map.specs.Maps.{places}
+use Rattle.digit_map.specs.Drafts.{drafted}
 use Rattle.digit_map.specs.Fields.{rank, timed}
 use Rattle.digit_map.specs.Limits.{sale}
 use Rattle.digit_map.specs.Acts.{fresh, onward}
-use Rattle.digit_map.specs.Turns.{Turn, on, done, bad, in-head, in-field, in-alternative, in-set, closed, state, start, halts, run, went}
+use Rattle.digit_map.specs.Turns.{Turn, on, done, bad, in-head, in-field, in-alternative, in-set, closed}
+use Rattle.digit_map.specs.Turns.{state, start, halts, run, went}
 
 -- a token's byte inside a set or a field, in alternative n
 abbrev pub byte-at : ℕ → Fault → Token → Result ℕ Fault
@@ -73,7 +74,8 @@ SetRead text base c at n (Ok x) =
     (c .at ≤ x .1 .at) × (x .1 .at ≤ length text)
     × ((t : Timers) (ns : List Node) (f : Frame) (p : Progress) (l : Bool) → f .number ≡ n →
     run sale (state t ns (in-set f p l at place.Start 0)) (rest text base c)
-    ≡ run sale (state t (ns ++ awaiting (position (x .0) l false) (p .mark) (p .marked) ∷ []) (in-alternative f (onward p at (p .mark) false last.Position))) (rest text base (x .1)))
+    ≡ run sale (state t (ns ++ awaiting (position (x .0) l false) (p .mark) (p .marked) ∷ [])
+    (in-alternative f (onward p at (p .mark) false last.Position))) (rest text base (x .1)))
 SetRead text base c at n (Err e) =
     (t : Timers) (ns : List Node) (f : Frame) (p : Progress) (l : Bool) → f .number ≡ n →
     run sale (state t ns (in-set f p l at place.Start 0)) (rest text base c) ≡ bad e
@@ -81,14 +83,17 @@ SetRead text base c at n (Err e) =
 abbrev pub FieldRead : List ℕ → Cursor → Field → ℕ → Result (ℕ × Cursor) Fault → Type 0
 FieldRead text c i at (Ok x) =
     (c .at < x .1 .at) × (x .1 .at ≤ length text) × (x .1 .loose ≡ true) × (x .0 < 100)
-    × ((t : Timers) → run sale (state t [] (in-field i at digits.Letter)) (rest text 0 c) ≡ run sale (state (timed t i (x .0)) [] (in-head (rank i + 1))) (rest text 0 (x .1)))
-FieldRead text c i at (Err e) = (t : Timers) → run sale (state t [] (in-field i at digits.Letter)) (rest text 0 c) ≡ bad e
+    × ((t : Timers) → run sale (state t [] (in-field i at digits.Letter)) (rest text 0 c)
+    ≡ run sale (state (timed t i (x .0)) [] (in-head (rank i + 1))) (rest text 0 (x .1)))
+FieldRead text c i at (Err e) = (t : Timers) →
+    run sale (state t [] (in-field i at digits.Letter)) (rest text 0 c) ≡ bad e
 
 -- behind the head no field may begin
 abbrev pub HeadRead : List ℕ → Result (Timers × ℕ) Fault → Type 0
 HeadRead text (Ok x) =
     (x .1 ≤ length text)
-    × (run sale start (tokens false 0 text) ≡ run sale (state (x .0) [] (in-head 4)) (tokens (ltb 0 (x .1)) (x .1) (drop (x .1) text)))
+    × (run sale start (tokens false 0 text)
+    ≡ run sale (state (x .0) [] (in-head 4)) (tokens (ltb 0 (x .1)) (x .1) (drop (x .1) text)))
 HeadRead text (Err e) = run sale start (tokens false 0 text) ≡ bad e
 
 -- a bar and a closing bracket have been passed
@@ -105,20 +110,28 @@ Passed sign.Dot a b = Unit {0}
 Passed sign.End a b = Unit {0}
 Passed sign.Other a b = Unit {0}
 
-abbrev pub AlternativeRead : List ℕ → ℕ → Cursor → Frame → Map → Map → Result (Sign × Cursor) Fault → Type 0
+abbrev pub AlternativeRead : List ℕ → ℕ → Cursor → Frame → Draft → Draft → Result (Sign × Cursor) Fault →
+    Type 0
 AlternativeRead text base c f m w (Ok x) =
     (w .timers ≡ m .timers) × Passed (x .0) (c .at) (x .1 .at) × (x .1 .at ≤ length text) × (f .number ≤ 64)
-    × (count-ends (places w) ≡ f .number)
-    × (run sale (state (m .timers) (places m) (in-alternative f fresh)) (rest text base c) ≡ went sale (halts (m .timers) (places w) f (x .0)) (rest text base (x .1)))
-AlternativeRead text base c f m w (Err e) = run sale (state (m .timers) (places m) (in-alternative f fresh)) (rest text base c) ≡ bad e
+    × (count-ends (drafted w) ≡ f .number)
+    × (run sale (state (m .timers) (drafted m) (in-alternative f fresh)) (rest text base c)
+    ≡ went sale (halts (m .timers) (drafted w) f (x .0)) (rest text base (x .1)))
+AlternativeRead text base c f m w (Err e) = run sale (state (m .timers) (drafted m) (in-alternative f fresh))
+    (rest text base c) ≡ bad e
 
 abbrev pub ClosedRead : List ℕ → ℕ → Cursor → ℕ → Result (Unit {0}) Fault → Type 0
-ClosedRead text base c n (Ok u) = (t : Timers) (ns : List Node) → run sale (state t ns (closed n)) (rest text base c) ≡ done t ns
-ClosedRead text base c n (Err e) = (t : Timers) (ns : List Node) → run sale (state t ns (closed n)) (rest text base c) ≡ bad e
+ClosedRead text base c n (Ok u) = (t : Timers) (ns : List Node) →
+    run sale (state t ns (closed n)) (rest text base c) ≡ done t ns
+ClosedRead text base c n (Err e) = (t : Timers) (ns : List Node) →
+    run sale (state t ns (closed n)) (rest text base c) ≡ bad e
 
-abbrev pub AlternativesRead : List ℕ → ℕ → Bool → Map → Map → Result (Unit {0}) Fault → Type 0
-AlternativesRead text base j m w (Ok u) = (w .timers ≡ m .timers) × (run sale (state (m .timers) [] (in-head 4)) (tokens j base text) ≡ done (m .timers) (places w))
-AlternativesRead text base j m w (Err e) = run sale (state (m .timers) [] (in-head 4)) (tokens j base text) ≡ bad e
+abbrev pub AlternativesRead : List ℕ → ℕ → Bool → Draft → Draft → Result (Unit {0}) Fault → Type 0
+AlternativesRead text base j m w (Ok u) =
+    (w .timers ≡ m .timers) × (run sale (state (m .timers) [] (in-head 4)) (tokens j base text)
+    ≡ done (m .timers) (drafted w))
+AlternativesRead text base j m w (Err e) = run sale (state (m .timers) [] (in-head 4)) (tokens j base text)
+    ≡ bad e
 
 -- the text's length is in order
 abbrev pub sized : List ℕ → Bool
@@ -127,6 +140,6 @@ sized text = ltb 0 (length text) && leb (length text) 2048
 abbrev pub reads : List ℕ → Turn
 reads text = cond (sized text) (run sale start (tokens false 0 text)) (bad (fault cause.Length 0 0))
 
-abbrev pub MapRead : List ℕ → Result Map Fault → Type 0
-MapRead text (Ok m) = reads text ≡ done (m .timers) (places m)
-MapRead text (Err e) = reads text ≡ bad e
+abbrev pub DraftRead : List ℕ → Result Draft Fault → Type 0
+DraftRead text (Ok m) = reads text ≡ done (m .timers) (drafted m)
+DraftRead text (Err e) = reads text ≡ bad e

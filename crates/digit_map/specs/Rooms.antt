@@ -6,7 +6,8 @@ use Rattle.digit_map.specs.declared.progress.Progress.{Progress}
 use Rattle.digit_map.specs.declared.progress.Act.{Act}
 use Rattle.digit_map.specs.declared.progress.Act.the-variants.{Go, Put, AddDot, OpenSet, Halt, Wrong}
 
--- in alternative n, with so many positions before it: only one that is not begun may be one too many, and a Z has a position to come
+-- in alternative n, with so many positions before it: only one that is not begun may be one too many, and a Z
+-- has a position to come
 abbrev pub Room : ℕ → ℕ → Last → Type 0
 Room n count last.Nothing = (n ≤ 65) × (count ≤ 255)
 Room n count last.Mark = (n ≤ 64) × (count ≤ 255)

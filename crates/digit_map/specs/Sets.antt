@@ -23,7 +23,8 @@ at-member m b close =
 abbrev pub set-turn : Place → ℕ → ℕ → SetTurn
 set-turn Start m b = at-member m b Bad
 set-turn Member m b = at-member m b (Done m)
-set-turn (Digit d) m b = cond (eqb b 45) (On (From d) m) (at-member (bitOr m (2 ^ d)) b (Done (bitOr m (2 ^ d))))
+set-turn (Digit d) m b = cond (eqb b 45) (On (From d) m)
+    (at-member (bitOr m (2 ^ d)) b (Done (bitOr m (2 ^ d))))
 set-turn (From d) m b = cond (digit b && leb d (b - 48)) (On Member (bitOr m (span d (b - 48)))) Bad
 
 -- a digit that waits is one

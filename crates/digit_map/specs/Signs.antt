@@ -9,7 +9,8 @@ use Rattle.digit_map.specs.declared.sign.Sign.{Sign}
 use Rattle.digit_map.specs.declared.sign.Sign.the-variants as sign
 use Rattle.digit_map.specs.Bytes.{digit, letter, key-letter, letter-key}
 
--- a key, x for the keys 0 to 9, a mark, a Z, a bracket, a bar or a dot; a letter T, S, L or Z before a colon begins a head field
+-- a key, x for the keys 0 to 9, a mark, a Z, a bracket, a bar or a dot; a letter T, S, L or Z before a colon
+-- begins a head field
 abbrev pub sign-of : ℕ → Bool → Sign
 sign-of b colon =
     cond (digit b) (sign.Keys (2 ^ (b - 48)))

@@ -137,7 +137,8 @@ Ends bracketed sign.Other = ⊥
 abbrev pub EndsNeedless : ℕ → Sign → Spot → Type 0
 EndsNeedless at s (in-head k) = ⊥
 EndsNeedless at s (in-field i o d) = ⊥
-EndsNeedless at s (in-alternative f p) = LastNeedless (p .needs) (p .last) × (p .first ≡ at) × Ends (f .bracketed) s
+EndsNeedless at s (in-alternative f p) = LastNeedless (p .needs) (p .last) × (p .first ≡ at) × Ends
+    (f .bracketed) s
 EndsNeedless at s (in-set f p l o q k) = ⊥
 EndsNeedless at s (closed n) = ⊥
 

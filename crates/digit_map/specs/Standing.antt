@@ -25,8 +25,10 @@ use Rattle.digit_map.specs.Sets.{span}
 use Rattle.digit_map.specs.Fields.{rank}
 use Rattle.digit_map.specs.Limits.{Limits}
 use Rattle.digit_map.specs.Acts.{progress}
-use Rattle.digit_map.specs.Turns.{Spot, in-head, in-field, in-alternative, in-set, closed, State, state, frame}
-use Rattle.digit_map.specs.Grammar.{Begun, Head, Member, Members, Elements, Alternative, Front, Final, nothing, mark, place, dot, is-mark}
+use Rattle.digit_map.specs.Turns.{Spot, in-head, in-field, in-alternative, in-set, closed, State, state}
+use Rattle.digit_map.specs.Turns.{frame}
+use Rattle.digit_map.specs.Grammar.{Begun, Head, Member, Members, Elements, Alternative, Front, Final}
+use Rattle.digit_map.specs.Grammar.{nothing, mark, place, dot, is-mark}
 
 -- the offset of the first token, or o where there is none
 abbrev pub first-or : ℕ → List Token → ℕ
@@ -60,16 +62,20 @@ pub data Inside : List Token → Place → ℕ → Type 0 where
       Inside (s ++ Byte a c o ∷ []) place.Member (bitOr m (2 ^ letter-key a))
   digit-more : {s : List Token} {m : ℕ} → Members s m → (a : ℕ) (c : Bool) (o : ℕ) → digit a ≡ true →
       Inside (s ++ Byte a c o ∷ []) (place.Digit (a - 48)) m
-  hyphen : {s : List Token} {m : ℕ} → Members s m → (a : ℕ) (c : Bool) (o : ℕ) → digit a ≡ true → (d : Bool) (p : ℕ) →
+  hyphen : {s : List Token} {m : ℕ} → Members s m → (a : ℕ) (c : Bool) (o : ℕ) → digit a ≡ true →
+      (d : Bool) (p : ℕ) →
       Inside (s ++ Byte a c o ∷ Byte 45 d p ∷ []) (place.From (a - 48)) m
-  range : {s : List Token} {m : ℕ} → Members s m → (a : ℕ) (c : Bool) (o : ℕ) (d : Bool) (p : ℕ) (b : ℕ) (e : Bool) (q : ℕ) →
+  range : {s : List Token} {m : ℕ} → Members s m →
+      (a : ℕ) (c : Bool) (o : ℕ) (d : Bool) (p : ℕ) (b : ℕ) (e : Bool) (q : ℕ) →
       digit a ≡ true → digit b ≡ true → a ≤ b →
       Inside (s ++ Byte a c o ∷ Byte 45 d p ∷ Byte b e q ∷ []) place.Member (bitOr m (span (a - 48) (b - 48)))
 
 -- elements, or elements and a Z that waits for its position
 pub data Read : List Token → List Node → Bool → Progress → Type 0 where
-  free : {u : List Token} {ns : List Node} {m : Mark} {e : Final} → Elements u ns m e → Read u ns false (behind-elements u ns m e)
-  held : {u : List Token} {ns : List Node} {m : Mark} {e : Final} → Elements u ns m e → (b : ℕ) (c : Bool) (o : ℕ) →
+  free : {u : List Token} {ns : List Node} {m : Mark} {e : Final} → Elements u ns m e →
+      Read u ns false (behind-elements u ns m e)
+  held : {u : List Token} {ns : List Node} {m : Mark} {e : Final} → Elements u ns m e →
+      (b : ℕ) (c : Bool) (o : ℕ) →
       sign-of b c ≡ sign.Hold → Read (u ++ Byte b c o ∷ []) ns true (behind-hold u ns m e o)
 
 -- an alternative without brackets is begun
@@ -81,17 +87,23 @@ Started false (x ∷ u) = Unit {0}
 -- the tokens before a place in the text
 pub data Stands : List Token → State → Type 0 where
   in-the-head : {s : List Token} {t : Timers} {k : ℕ} → Head s t k → Stands s (state t [] (in-head k))
-  in-a-field : {s u : List Token} {t : Timers} {k o : ℕ} {i : Field} {d : Digits} → Head s t k → k ≤ rank i → Begun u i o d →
+  in-a-field : {s u : List Token} {t : Timers} {k o : ℕ} {i : Field} {d : Digits} → Head s t k → k ≤ rank i →
+      Begun u i o d →
       Stands (s ++ u) (state t [] (in-field i o d))
-  in-an-alternative : {s u : List Token} {t : Timers} {b : Bool} {n : ℕ} {ns us : List Node} {l : Bool} {p : Progress} →
-      Front s t b n ns → Read u us l p → Started b u → Stands (s ++ u) (state t (ns ++ us) (in-alternative (frame b n) p))
-  in-a-set : {s u v : List Token} {t : Timers} {b : Bool} {n k : ℕ} {ns us : List Node} {l : Bool} {p : Progress} {q : Place} →
+  in-an-alternative : {s u : List Token} {t : Timers} {b : Bool} {n : ℕ} {ns us : List Node} {l : Bool}
+      {p : Progress} →
+      Front s t b n ns → Read u us l p → Started b u →
+      Stands (s ++ u) (state t (ns ++ us) (in-alternative (frame b n) p))
+  in-a-set : {s u v : List Token} {t : Timers} {b : Bool} {n k : ℕ} {ns us : List Node} {l : Bool}
+      {p : Progress} {q : Place} →
       Front s t b n ns → Read u us l p → (c : Bool) (o : ℕ) → Inside v q k →
       Stands (s ++ (u ++ Byte 91 c o ∷ v)) (state t (ns ++ us) (in-set (frame b n) p l o q k))
-  behind-bracket : {s u : List Token} {t : Timers} {n : ℕ} {ns us : List Node} → Front s t true n ns → Alternative u us →
+  behind-bracket : {s u : List Token} {t : Timers} {n : ℕ} {ns us : List Node} → Front s t true n ns →
+      Alternative u us →
       (c : Bool) (o : ℕ) → Stands (s ++ (u ++ Byte 41 c o ∷ [])) (state t (ns ++ us) (closed n))
 
--- the limits are kept: an alternative may be one too many only until it is begun, and a Z has a position to come
+-- the limits are kept: an alternative may be one too many only until it is begun, and a Z has a position to
+-- come
 abbrev pub InLimits : Limits → ℕ → ℕ → Last → Type 0
 InLimits L n count last.Nothing = (n ≤ L .alternatives + 1) × (count ≤ L .positions)
 InLimits L n count last.Mark = (n ≤ L .alternatives) × (count ≤ L .positions)

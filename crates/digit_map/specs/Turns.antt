@@ -36,7 +36,8 @@ use Rattle.digit_map.specs.Fields.{rank, timed, field-turn}
 use Rattle.digit_map.specs.Limits.{Limits, sale}
 use Rattle.digit_map.specs.Acts.{fresh, onward, acts}
 
--- where a token stands: behind fields, of which the next has the number at least; in a field, whose letter stands at an offset; in an
+-- where a token stands: behind fields, of which the next has the number at least; in a field, whose letter
+-- stands at an offset; in an
 -- alternative; in a set, long or not, that opened at an offset; behind the closing round bracket
 pub data Spot : Type 0 where
   in-head : ℕ → Spot
@@ -116,7 +117,8 @@ turn-alternative L t ns f p s o = acted t ns f p s o (acts L f (count-positions 
 abbrev pub turn-head : Limits → Timers → ℕ → Sign → ℕ → Turn
 turn-head L t k (sign.Keys m) o = turn-alternative L t [] (frame false 1) fresh (sign.Keys m) o
 turn-head L t k (sign.Timer m) o = turn-alternative L t [] (frame false 1) fresh (sign.Timer m) o
-turn-head L t k (sign.Field i) o = cond (leb k (rank i)) (on (state t [] (in-field i o digits.Letter))) (bad (fault cause.Head o 0))
+turn-head L t k (sign.Field i) o = cond (leb k (rank i)) (on (state t [] (in-field i o digits.Letter)))
+    (bad (fault cause.Head o 0))
 turn-head L t k sign.Hold o = turn-alternative L t [] (frame false 1) fresh sign.Hold o
 turn-head L t k sign.SetOpen o = turn-alternative L t [] (frame false 1) fresh sign.SetOpen o
 turn-head L t k sign.Open o = on (state t [] (in-alternative (frame true 1) fresh))
@@ -146,7 +148,9 @@ fielded t i at field.Bad = bad (fault cause.Head at 0)
 
 abbrev pub in-set-turned : Timers → List Node → Frame → Progress → Bool → ℕ → SetTurn → Turn
 in-set-turned t ns f p l at (set.On q k) = on (state t ns (in-set f p l at q k))
-in-set-turned t ns f p l at (set.Done k) = on (state t (ns ++ awaiting (position k l false) (p .mark) (p .marked) ∷ []) (in-alternative f (onward p at (p .mark) false last.Position)))
+in-set-turned t ns f p l at (set.Done k) =
+    on (state t (ns ++ awaiting (position k l false) (p .mark) (p .marked) ∷ [])
+    (in-alternative f (onward p at (p .mark) false last.Position)))
 in-set-turned t ns f p l at set.Bad = bad (fault cause.Set at (f .number))
 
 -- one token
@@ -154,7 +158,8 @@ abbrev pub turn-at : Limits → Timers → List Node → Spot → Token → Turn
 turn-at L t ns (in-head k) = by-sign 1 (turn-head L t k)
 turn-at L t ns (in-field i at d) = by-byte 1 (fault cause.Head at 0) (λ b. fielded t i at (field-turn i d b))
 turn-at L t ns (in-alternative f p) = by-sign (f .number) (turn-alternative L t ns f p)
-turn-at L t ns (in-set f p l at q k) = by-byte (f .number) (fault cause.Set at (f .number)) (λ b. in-set-turned t ns f p l at (set-turn q k b))
+turn-at L t ns (in-set f p l at q k) = by-byte (f .number) (fault cause.Set at (f .number))
+    (λ b. in-set-turned t ns f p l at (set-turn q k b))
 turn-at L t ns (closed n) = by-sign n (turn-closed t ns n)
 
 abbrev pub turn : Limits → State → Token → Turn

@@ -3,16 +3,16 @@ ghost use mathlib.Core.List.{[]};
 ghost use Prim.Native.Nat.{_<_, _≤_, _+_, _^_};
 ghost use lib.ListN.{length};
 ghost use Rattle.digit_map.specs.Nodes.{count-positions, count-ends};
-ghost use Rattle.digit_map.specs.Maps.{places};
+ghost use Rattle.digit_map.specs.Drafts.{drafted};
 ghost use Rattle.digit_map.specs.Limits.{sale};
 ghost use Rattle.digit_map.specs.Acts.{acts, fresh, onward, at-dot, at-halt};
 ghost use Rattle.digit_map.specs.Turns.{fault-in};
 ghost use Rattle.digit_map.specs.Rooms.{Room, RoomFor};
 ghost use Rattle.digit_map.specs.Reads.{sign-at, AlternativeRead, ClosedRead, AlternativesRead};
 use crate::blank::next_token;
+use crate::draft::Draft;
 use crate::fault::Cause;
 use crate::fault::Fault;
-use crate::map::Map;
 use crate::node::Position;
 use crate::progress::Act;
 use crate::progress::Frame;
@@ -172,20 +172,21 @@ fn act(frame: Frame, positions: usize, progress: Progress, sign: Sign, at: usize
     }
 }
 
-// Reads an alternative from the cursor on and adds its places to the map; answers the sign that ended it and the cursor behind.
+// Reads an alternative from the cursor on and adds its places to the draft; answers the sign that ended it
+// and the cursor behind.
 fn read_alternative(
     text: &[u8],
     base: usize,
     cursor: Cursor,
     frame: Frame,
-    map: &mut Map,
+    draft: &mut Draft,
 ) -> Result<(Sign, Cursor), Fault>
     requires within { ⌜ cursor .at ≤ length (now text) ⌝ }
     requires fits { ⌜ base + length (now text) < 2 ^ 64 ⌝ }
-    requires positions { ⌜ count-positions (places (now map)) ≤ 255 ⌝ }
-    requires ends { ⌜ count-ends (places (now map)) + 1 ≡ frame .number ⌝ ∗ ⌜ frame .number ≤ 65 ⌝ }
-    ensures reads { λ r. ⌜ AlternativeRead (now (text .entry)) base cursor frame (now (map .entry)) (now (map .exit)) r ⌝ }
-    ensures room { λ _. ⌜ count-positions (places (now (map .exit))) ≤ 255 ⌝ }
+    requires positions { ⌜ count-positions (drafted (now draft)) ≤ 255 ⌝ }
+    requires ends { ⌜ count-ends (drafted (now draft)) + 1 ≡ frame .number ⌝ ∗ ⌜ frame .number ≤ 65 ⌝ }
+    ensures reads { λ r. ⌜ AlternativeRead (now (text .entry)) base cursor frame (now (draft .entry)) (now (draft .exit)) r ⌝ }
+    ensures room { λ _. ⌜ count-positions (drafted (now (draft .exit))) ≤ 255 ⌝ }
 {
     let mut progress = nothing_read();
     let mut behind = cursor;
@@ -193,19 +194,19 @@ fn read_alternative(
         let (token, after) = next_token(text, base, behind);
         let (sign, at) = token_sign(token, frame.number)?;
         behind = after;
-        match act(frame, map.positions(), progress, sign, at) {
+        match act(frame, draft.positions(), progress, sign, at) {
             Act::Go(next) => progress = next,
             Act::Put(position, next) => {
-                map.put(position, progress.mark, progress.marked);
+                draft.put(position, progress.mark, progress.marked);
                 progress = next;
             }
             Act::AddDot(next) => {
-                map.dot_last();
+                draft.dot_last();
                 progress = next;
             }
             Act::OpenSet(long) => {
                 let (keys, close) = read_set(text, base, after, at, frame.number)?;
-                map.put(
+                draft.put(
                     Position {
                         keys,
                         long,
@@ -218,7 +219,7 @@ fn read_alternative(
                 behind = close;
             }
             Act::Halt => {
-                map.end(progress.mark, progress.marked);
+                draft.end(progress.mark, progress.marked);
                 return Ok((sign, after));
             }
             Act::Wrong(cause, offset) => return Err(fault_in(frame.number, cause, offset)),
@@ -254,16 +255,17 @@ fn read_close(text: &[u8], base: usize, cursor: Cursor, alternative: u8) -> Resu
     }
 }
 
-// Reads the part of the text behind the head and adds its alternatives to the map; `loose` says that a comma stands before it.
+// Reads the part of the text behind the head and adds its alternatives to the draft; `loose` says that a
+// comma stands before it.
 pub(crate) fn read_alternatives(
     text: &[u8],
     base: usize,
     loose: bool,
-    map: &mut Map,
+    draft: &mut Draft,
 ) -> Result<(), Fault>
     requires fits { ⌜ base + length (now text) < 2 ^ 64 ⌝ }
-    requires empty { ⌜ places (now map) ≡ [] ⌝ }
-    ensures { λ r. ⌜ AlternativesRead (now (text .entry)) base loose (now (map .entry)) (now (map .exit)) r ⌝ }
+    requires empty { ⌜ drafted (now draft) ≡ [] ⌝ }
+    ensures { λ r. ⌜ AlternativesRead (now (text .entry)) base loose (now (draft .entry)) (now (draft .exit)) r ⌝ }
 {
     let begin = Cursor { at: 0, loose };
     let (token, after) = next_token(text, base, begin);
@@ -277,7 +279,7 @@ pub(crate) fn read_alternatives(
         number: 1,
     };
     'alternatives: loop {
-        let (sign, after) = read_alternative(text, base, behind, frame, map)?;
+        let (sign, after) = read_alternative(text, base, behind, frame, draft)?;
         match sign {
             Sign::Bar => {
                 frame = Frame {

@@ -106,7 +106,8 @@ fn turn_field(field: Field, digits: Digits, byte: u8) -> FieldTurn
     }
 }
 
-// The value of the field whose letter has the offset `letter`, from behind it on, and the cursor behind its comma.
+// The value of the field whose letter has the offset `letter`, from behind it on, and the cursor behind its
+// comma.
 fn read_field(
     text: &[u8],
     cursor: Cursor,
@@ -136,7 +137,8 @@ fn read_field(
     }
 }
 
-// The field that a token begins, with its letter's offset, if it is not one before the field numbered `least`.
+// The field that a token begins, with its letter's offset, if it is not one before the field numbered
+// `least`.
 fn field_from(token: Token, least: u8) -> Option<(Field, usize)>
     ensures { λ r. ⌜ r ≡ next-field least token ⌝ }
 {

@@ -1,6 +1,7 @@
 //! The text of a map: its readers, its faults, and the map that a text stands for.
 mod alternative;
 mod blank;
+pub mod draft;
 pub mod fault;
 pub mod head;
 pub mod map;

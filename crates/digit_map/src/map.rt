@@ -1,22 +1,16 @@
 ghost use mathlib.Core.Path.{_≡_};
-ghost use Prim.Native.Nat.{_≤_};
-ghost use lib.ListN.{length, take};
-ghost use Rattle.digit_map.specs.Nodes.{count-positions, count-ends};
-use crate::node::Node;
-use keypad::timers::Timers;
+ghost use mathlib.Core.Bool.{true};
+ghost use Rattle.digit_map.specs.Drafts.{drafted};
+ghost use Rattle.digit_map.specs.Proper.{proper};
+use crate::draft::Draft;
 
 pub mod places;
 
-// A house's map: its timers, and the places of its alternatives one behind another, each alternative's end as its last place.
+// A house's map: its timers, and the places of its alternatives one behind another, each alternative's end as
+// its last place. It has an
+// alternative, every position has a key, and every alternative needs one.
 #[derive(Clone, Copy)]
 pub struct Map {
-    timers: Timers,
-    nodes: [Node; 320],
-    len: usize,
-    positions: usize,
-    alternatives: usize,
-    ghost full: { length nodes ≡ 320 },
-    ghost few: { len ≤ 320 },
-    ghost counted: { positions ≡ count-positions (take len nodes) },
-    ghost ended: { alternatives ≡ count-ends (take len nodes) },
+    draft: Draft,
+    ghost proper: { proper (drafted draft) ≡ true },
 }

@@ -12,7 +12,8 @@ pub enum Last {
     Hold(usize),
 }
 
-// How far an alternative is read: the mark in force, whether one stands last (but for a Z), whether a position without a dot was followed
+// How far an alternative is read: the mark in force, whether one stands last (but for a Z), whether a
+// position without a dot was followed
 // by something else than a dot, the offset of its first byte, and the last thing read.
 #[derive(Clone, Copy)]
 pub struct Progress {

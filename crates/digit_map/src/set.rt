@@ -9,7 +9,8 @@ use crate::fault::Fault;
 use crate::token::Cursor;
 use crate::token::Token;
 
-// Where a set's reader stands: before its first member, behind a member, behind a digit that may begin a range, behind its hyphen.
+// Where a set's reader stands: before its first member, behind a member, behind a digit that may begin a
+// range, behind its hyphen.
 #[derive(Clone, Copy)]
 pub enum Place {
     Start,
@@ -74,7 +75,8 @@ pub(crate) fn token_byte(token: Token, alternative: u8, unfinished: Fault) -> Re
     }
 }
 
-// The keys of the set whose opening bracket has the offset `opened`, from the byte behind it on, and the cursor behind its closing bracket.
+// The keys of the set whose opening bracket has the offset `opened`, from the byte behind it on, and the
+// cursor behind its closing bracket.
 pub(crate) fn read_set(
     text: &[u8],
     base: usize,

@@ -7,7 +7,7 @@ use Rattle.std.specs.declared.result.Result.{Result}
 use Rattle.std.specs.declared.result.Result.the-variants.{Ok, Err}
 use Rattle.digit_map.specs.declared.fault.Fault.{Fault}
 use Rattle.digit_map.specs.declared.map.Map.{Map}
-use Rattle.digit_map.specs.Maps.{places}
+use Rattle.digit_map.specs.Maps.{places, timers-of}
 use Rattle.digit_map.specs.Nodes.{count-positions, count-ends}
 use Rattle.digit_map.specs.Derives.{ReadExactly}
 use Rattle.fault_line.specs.Told.{told}
@@ -22,7 +22,7 @@ refused text f =
 -- the map's timers and counts, and the text
 abbrev pub admitted : List ℕ → Map → List ℕ
 admitted text m =
-    summary (m .timers) (count-ends (places m)) (count-positions (places m)) ++ excerpt text ++ feed
+    summary (timers-of m) (count-ends (places m)) (count-positions (places m)) ++ excerpt text ++ feed
 
 -- what is told when a text has been read
 abbrev pub outcome : List ℕ → Result Map Fault → List ℕ

@@ -1,131 +1,54 @@
 ghost use mathlib.Core.Path.{_≡_};
-ghost use mathlib.Core.Bool.{Bool, true, false};
-ghost use mathlib.Core.List.{[], _∷_, _++_};
-ghost use Prim.Native.Nat.{_≤_, _<_};
-ghost use lib.ListN.{length, getD};
-ghost use Rattle.std.specs.Options.{Cases};
-ghost use Rattle.digit_map.specs.Nodes.{count-positions, count-ends, awaiting, ending, with-dot, dot-last};
-ghost use Rattle.digit_map.specs.Maps.{places};
+ghost use mathlib.Core.Bool.{true};
+ghost use lib.ListN.{length};
+ghost use Rattle.digit_map.specs.Nodes.{PlaceAt};
+ghost use Rattle.digit_map.specs.Nodes.{count-positions, count-ends};
+ghost use Rattle.digit_map.specs.Drafts.{drafted};
+ghost use Rattle.digit_map.specs.Proper.{proper};
+ghost use Rattle.digit_map.specs.Maps.{places, timers-of};
+use crate::draft::Draft;
 use crate::map::Map;
 use crate::node::Node;
-use crate::node::Position;
-use keypad::key::Mark;
 use keypad::timers::Timers;
 
-// A dot behind what is awaited, if it is a position.
-fn with_dot(awaited: Option<Position>) -> Option<Position>
-    ensures { λ r. ⌜ r ≡ with-dot awaited ⌝ }
-{
-    match awaited {
-        Some(position) => Some(Position {
-            dotted: true,
-            ..position
-        }),
-        None => None,
-    }
-}
-
 impl Map {
-    // A map with no alternative yet.
-    pub(crate) fn begin(timers: Timers) -> Map
-        ensures places { λ r. ⌜ places r ≡ [] ⌝ }
-        ensures timers { λ r. ⌜ r .timers ≡ timers ⌝ }
+    // A map whose text is read to its end.
+    pub(crate) fn finish(draft: Draft) -> Map
+        requires { ⌜ proper (drafted draft) ≡ true ⌝ }
+        ensures { λ r. ⌜ r .draft ≡ draft ⌝ }
     {
-        let end = Node {
-            awaits: None,
-            mark: Mark::Unmarked,
-            marked: false,
-        };
-        Map {
-            timers,
-            nodes: [end; 320],
-            len: 0,
-            positions: 0,
-            alternatives: 0,
-        }
-    }
-
-    // One position more.
-    pub(crate) fn put(&mut self, position: Position, mark: Mark, marked: bool)
-        requires positions { ⌜ count-positions (places (now self)) < 255 ⌝ }
-        requires ends { ⌜ count-ends (places (now self)) < 65 ⌝ }
-        ensures places { λ _. ⌜ places (now (self .exit)) ≡ places (now (self .entry)) ++ awaiting position mark marked ∷ [] ⌝ }
-        ensures timers { λ _. ⌜ now (self .exit) .timers ≡ now (self .entry) .timers ⌝ }
-    {
-        self.nodes[self.len] = Node {
-            awaits: Some(position),
-            mark,
-            marked,
-        };
-        self.len += 1;
-        self.positions += 1;
-    }
-
-    // The end of an alternative.
-    pub(crate) fn end(&mut self, mark: Mark, marked: bool)
-        requires positions { ⌜ count-positions (places (now self)) < 256 ⌝ }
-        requires ends { ⌜ count-ends (places (now self)) < 64 ⌝ }
-        ensures places { λ _. ⌜ places (now (self .exit)) ≡ places (now (self .entry)) ++ ending mark marked ∷ [] ⌝ }
-        ensures timers { λ _. ⌜ now (self .exit) .timers ≡ now (self .entry) .timers ⌝ }
-    {
-        self.nodes[self.len] = Node {
-            awaits: None,
-            mark,
-            marked,
-        };
-        self.len += 1;
-        self.alternatives += 1;
-    }
-
-    // A dot behind the last position.
-    pub(crate) fn dot_last(&mut self)
-        ensures places { λ _. ⌜ places (now (self .exit)) ≡ dot-last (places (now (self .entry))) ⌝ }
-        ensures timers { λ _. ⌜ now (self .exit) .timers ≡ now (self .entry) .timers ⌝ }
-    {
-        if self.len > 0 {
-            let last = self.len - 1;
-            let node = self.nodes[last];
-            self.nodes[last] = Node {
-                awaits: with_dot(node.awaits),
-                mark: node.mark,
-                marked: node.marked,
-            };
-        }
+        Map { draft }
     }
 
     pub fn timers(&self) -> Timers
-        ensures { λ r. ⌜ r ≡ now (self .entry) .timers ⌝ }
+        ensures { λ r. ⌜ r ≡ timers-of (now (self .entry)) ⌝ }
     {
-        self.timers
+        self.draft.timers()
     }
 
     // How many places the map has, the ends of its alternatives among them.
     pub fn len(&self) -> usize
         ensures { λ r. ⌜ r ≡ length (places (now (self .entry))) ⌝ }
     {
-        self.len
+        self.draft.len()
     }
 
     pub fn positions(&self) -> usize
         ensures { λ r. ⌜ r ≡ count-positions (places (now (self .entry))) ⌝ }
     {
-        self.positions
+        self.draft.positions()
     }
 
     pub fn alternatives(&self) -> usize
         ensures { λ r. ⌜ r ≡ count-ends (places (now (self .entry))) ⌝ }
     {
-        self.alternatives
+        self.draft.alternatives()
     }
 
     // The place with the given index, counted from 0.
     pub fn place(&self, index: usize) -> Option<Node>
-        ensures { λ r. ⌜ Cases r (length (places (now (self .entry))) ≤ index) (λ n. (index < length (places (now (self .entry)))) × (n ≡ getD (places (now (self .entry))) index n)) ⌝ }
+        ensures { λ r. ⌜ PlaceAt (places (now (self .entry))) index r ⌝ }
     {
-        if index < self.len {
-            Some(self.nodes[index])
-        } else {
-            None
-        }
+        self.draft.place(index)
     }
 }

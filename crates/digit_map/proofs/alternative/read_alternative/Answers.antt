@@ -26,14 +26,16 @@ signs-again c =
 pub signs-less : need.signs-less
 signs-less c =
     let k = c .in-Continue-keys in
-    acting.alternative-set-less (c .signs .inv) (c .next-token-token .ensures) (c .in-Continue-sign .ensures tt)
+    acting.alternative-set-less (c .signs .inv) (c .next-token-token .ensures)
+    (c .in-Continue-sign .ensures tt)
     (c .positions .ensures) (k .keys) (k .close) (c .in-OpenSet .ensures tt .value) (k .ensures tt)
 
 pub returns-in-Halt : need.returns-in-Halt
 returns-in-Halt c =
     let e = c .in-Halt .ensures tt in
     record {
-      reads = acting.alternative-halt (c .signs .inv) (c .next-token-token .ensures) (c .in-Continue-sign .ensures tt)
+      reads = acting.alternative-halt (c .signs .inv) (c .next-token-token .ensures)
+          (c .in-Continue-sign .ensures tt)
           (c .positions .ensures) (c .end .last .self) (e .value) (e .room)
           (c .end .ensures .places) (c .end .ensures .timers);
       room = acting.few-behind (c .signs .inv) (c .end .last .self) (c .end .ensures .places);
@@ -43,7 +45,8 @@ pub returns-in-Wrong : need.returns-in-Wrong
 returns-in-Wrong c =
     record {
       reads = rw (c .fault-in .ensures)
-          (acting.alternative-wrong (c .signs .inv) (c .next-token-token .ensures) (c .in-Continue-sign .ensures tt)
-          (c .positions .ensures) (c .signs .map) (c .in-Wrong .ensures tt .value));
+          (acting.alternative-wrong (c .signs .inv) (c .next-token-token .ensures)
+          (c .in-Continue-sign .ensures tt)
+          (c .positions .ensures) (c .signs .draft) (c .in-Wrong .ensures tt .value));
       room = acting.few-before (c .signs .inv);
     }

@@ -9,7 +9,8 @@ pub returns-in-Break-value : need.returns-in-Break-value
 returns-in-Break-value c =
     let p = err-from-errBy (c .from-residual .result) (c .from-residual .ensures .1) in
     let e = c .in-Some .ensures tt in
-    rw (p .1, p .2) (head-bad (c .fields .inv) (c .next-token-token .ensures) e (c .in-Break-value .ensures tt))
+    rw (p .1, p .2) (head-bad (c .fields .inv) (c .next-token-token .ensures) e
+    (c .in-Break-value .ensures tt))
 
 pub fields-again : need.fields-again
 fields-again c =

@@ -4,7 +4,7 @@ use mathlib.Core.Path.{_∙_, sym}
 use Prim.Native.Nat.{_≤_, _<_}
 use lib.ListN.{length}
 use Rattle.std.proofs.shelf.Lists.{length-take-le, getD-take, getD-default}
-use Rattle.digit_map.proofs.map.Map.place.Needs as need
+use Rattle.digit_map.proofs.draft.Draft.place.Needs as need
 
 pub returns-then-index-self : need.returns-then-index-self
 returns-then-index-self c =

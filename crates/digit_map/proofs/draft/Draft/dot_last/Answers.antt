@@ -6,7 +6,7 @@ use Rattle.std.proofs.shelf.Lists.{length-set}
 use Rattle.digit_map.specs.Nodes.{count-positions, count-ends}
 use Rattle.digit_map.proofs.Places.{dots-last}
 use Rattle.digit_map.proofs.NodeLaws.{positions-dot-last, ends-dot-last}
-use Rattle.digit_map.proofs.map.Map.dot_last.Needs as need
+use Rattle.digit_map.proofs.draft.Draft.dot_last.Needs as need
 
 pub ghost-self : need.ghost-self
 ghost-self c =

@@ -6,7 +6,7 @@ use lib.ListN.{length}
 use Rattle.std.proofs.shelf.Lists.{length-set, take-more-set}
 use Rattle.digit_map.specs.Nodes.{awaiting}
 use Rattle.digit_map.proofs.Places.{counts-take, positions-put, ends-put}
-use Rattle.digit_map.proofs.map.Map.put.Needs as need
+use Rattle.digit_map.proofs.draft.Draft.put.Needs as need
 
 pub index-self-self : need.index-self-self
 index-self-self c =

@@ -6,7 +6,7 @@ use lib.ListN.{length}
 use Rattle.std.proofs.shelf.Lists.{length-set, take-more-set}
 use Rattle.digit_map.specs.Nodes.{ending}
 use Rattle.digit_map.proofs.Places.{counts-take, positions-put, ends-put}
-use Rattle.digit_map.proofs.map.Map.end.Needs as need
+use Rattle.digit_map.proofs.draft.Draft.end.Needs as need
 
 pub index-self-self : need.index-self-self
 index-self-self c =
