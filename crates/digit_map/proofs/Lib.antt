@@ -31,6 +31,7 @@ pub mod Decided
 pub mod KeyedPlaces
 pub mod Propers
 pub mod Meanings
+pub mod Maps
 pub mod Placeless
 pub mod Wider
 pub mod Flags

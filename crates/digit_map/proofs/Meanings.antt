@@ -9,11 +9,12 @@ use Rattle.std.proofs.shelf.Tests.{both-ways, and-parts}
 use Rattle.std.specs.declared.option.Option.{Option}
 use Rattle.std.specs.declared.option.Option.the-variants.{Some, None}
 use Rattle.keypad.specs.declared.key.Mark.{Mark}
+use Rattle.keypad.specs.declared.key.Symbol.{Symbol}
 use Rattle.keypad.specs.Entries.{Entry, ended}
 use Rattle.digit_map.specs.declared.node.Position.{Position}
 use Rattle.digit_map.specs.declared.node.Node.{Node}
 use Rattle.digit_map.specs.Nodes.{awaiting, ending, no-position, count-ends}
-use Rattle.digit_map.specs.Meaning.{one-of, Says, closes, takes, repeats, skips}
+use Rattle.digit_map.specs.Meaning.{symbol-of, Takes, one-of, Says, closes, takes, repeats, skips}
 use Rattle.digit_map.specs.Meaning.{is-end, whole-alternatives, Stepped, Meant}
 use Rattle.digit_map.specs.Proper.{owes, proper-from, proper}
 use Rattle.digit_map.proofs.Masks.{some-key}
@@ -86,8 +87,7 @@ meant ns e =
     }
 
 from-place : (ns : List Node) (b : Bool) (i : ℕ) → Lawful b ns → whole-alternatives ns ≡ true →
-    i < length ns →
-    (e : Entry) × Says (drop i ns) e
+    i < length ns → (e : Entry) × Says (drop i ns) e
 from-place [] b i s e l = absurd (omega arith)
 from-place (n ∷ ns) b zero s e l = says-some (n ∷ ns) b s (last-counts n ns e)
 from-place (n ∷ []) b (suc i) s e l = absurd (omega arith)
@@ -99,3 +99,18 @@ completes [] i e l = absurd (omega arith)
 completes (n ∷ ns) i e l =
     let h = and-parts (whole-alternatives (n ∷ ns)) (proper-from true (n ∷ ns)) e in
     from-place (n ∷ ns) true i (lawful-sound (n ∷ ns) true (h .1)) (h .0) l
+
+lawful-drop : (i : ℕ) (ns : List Node) (b : Bool) → Lawful b ns → (c : Bool) × Lawful c (drop i ns)
+lawful-drop zero ns b s = (b, s)
+lawful-drop (suc i) [] b s = (b, s)
+lawful-drop (suc i) (n ∷ ns) b s = lawful-drop i ns (owes b (n .awaits)) (s .1)
+
+-- each position of a proper map takes some symbol
+pub takes-some : (ns : List Node) (i : ℕ) → proper ns ≡ true →
+    (p : Position) (m : Mark) (h : Bool) (r : List Node) → drop i ns ≡ awaiting p m h ∷ r →
+    (s : Symbol) × Takes p s
+takes-some ns i e p m h r q =
+    let l = lawful-drop i ns true (proper-parts ns e .1) in
+    let k : Keyed (p .keys) = subst (Lawful (l .0)) q (l .1) .0 in
+    let x = some-key (p .keys) (k .0) (k .1) in
+    (symbol-of (p .long) (x .0), one-of (x .0) (x .1) (x .2))

@@ -44,8 +44,7 @@ pub record Continued (p : List Token) : Type 0 where
   pub admitted : Admitted limits (front ++ back) timers nodes
 
 -- what stands before the deciding token can still be continued to an admitted text, and with that token it
--- cannot, unless the fault is one
--- of the limits
+-- cannot, unless the fault is one of the limits
 pub record Turning {ts : List Token} {f : Fault} (d : Decides ts f) : Type 0 where
   pub continued : Continued (d .before)
   pub ended : (f .cause ≡ cause.Excess → ⊥) → Continued (d .before ++ d .here ∷ []) → ⊥

@@ -24,8 +24,7 @@ use Rattle.digit_map.specs.Continues.{Turning}
 use Rattle.digit_map.specs.Meaning.{Meant}
 
 -- a text stands for a map, by its timers and places: it has 1 to 2,048 bytes, its blanks stand where they
--- may, and the grammar derives what
--- it is without them, within the limits
+-- may, and the grammar derives what it is without them, within the limits
 pub record Derives (text : List ℕ) (t : Timers) (ns : List Node) : Type 0 where
   pub low : 0 < length text
   pub high : length text ≤ 2048
@@ -40,10 +39,8 @@ pub data FaultOf (text : List ℕ) : Fault → Type 0 where
       FaultOf text f
 
 -- reading a text: admitted exactly when derived, as the one map that it stands for, whose entries have steps;
--- refused exactly when it has a
--- fault, of which there is one; a gap in its tokens is the first blank of a run that may not stand there; and
--- at the token that decides it
--- stops being the beginning of an admitted text
+-- refused exactly when it has a fault, of which there is one; a gap in its tokens is the first blank of a run
+-- that may not stand there; and at the token that decides it stops being the beginning of an admitted text
 pub record ReadExactly (text : List ℕ) (r : Result Map Fault) : Type 0 where
   pub derived : (m : Map) → r ≡ Ok m → Derives text (timers-of m) (places m)
   pub admitted : (t : Timers) (ns : List Node) → Derives text t ns →

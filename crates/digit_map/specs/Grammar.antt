@@ -88,8 +88,7 @@ is-mark place = false
 is-mark dot = false
 
 -- elements one behind another: their places, the mark in force at their end, and the last of them. A mark is
--- in force from where it stands
--- to the next; a dot belongs to the position before it
+-- in force from where it stands to the next; a dot belongs to the position before it
 pub data Elements : List Token → List Node → Mark → Final → Type 0 where
   none : Elements [] [] Unmarked nothing
   mark-more : {s : List Token} {ns : List Node} {m : Mark} {e : Final} → Elements s ns m e →
@@ -108,8 +107,7 @@ pub data Alternative : List Token → List Node → Type 0 where
       Alternative s (ns ++ ending m (is-mark e) ∷ [])
 
 -- what stands before an alternative: a head, and if round brackets are open the alternatives before it, each
--- with its bar; the timers,
--- whether brackets are open, the alternative's number, and the places so far
+-- with its bar; the timers, whether brackets are open, the alternative's number, and the places so far
 pub data Front : List Token → Timers → Bool → ℕ → List Node → Type 0 where
   bare : {s : List Token} {t : Timers} {k : ℕ} → Head s t k → Front s t false 1 []
   opened : {s : List Token} {t : Timers} {k : ℕ} → Head s t k → (c : Bool) (o : ℕ) →

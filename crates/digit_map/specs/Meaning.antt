@@ -24,8 +24,8 @@ pub data Takes (p : Position) : Symbol → Type 0 where
   one-of : (k : ℕ) → k < 16 → has (p .keys) k ≡ true → Takes p (symbol-of (p .long) k)
 
 -- an entry from a place of an alternative on: a position without a dot is one step, under the mark in force
--- there; one with a dot is zero or
--- more; the alternative's end closes the entry, held if a mark stands right before it
+-- there; one with a dot is zero or more; the alternative's end closes the entry, held if a mark stands right
+-- before it
 pub data Says : List Node → Entry → Type 0 where
   closes : (m : Mark) (h : Bool) (ns : List Node) → Says (ending m h ∷ ns) (ended m h)
   takes : (p : Position) (m : Mark) (h : Bool) {ns : List Node} {e : Entry} {s : Symbol} →

@@ -25,8 +25,7 @@ proper-from b [] = true
 proper-from b (n ∷ ns) = proper-at b (n .awaits) && proper-from (owes b (n .awaits)) ns
 
 -- a map has an alternative, its last place is an alternative's end, its positions have keys, and each
--- alternative has a position without
--- a dot
+-- alternative has a position without a dot
 abbrev pub proper : List Node → Bool
 proper [] = false
 proper (n ∷ ns) = whole-alternatives (n ∷ ns) && proper-from true (n ∷ ns)

@@ -25,8 +25,7 @@ abbrev pub token : ℕ → List ℕ → ℕ → Token
 token b bs o = Byte b (field-letter b && colon-ahead bs) o
 
 -- the text from offset o on, its blanks taken out, and its end; j says that a joint stands before it. The
--- first blank of a run that has no
--- joint on either side is the last token
+-- first blank of a run that has no joint on either side is the last token
 abbrev pub tokens : Bool → ℕ → List ℕ → List Token
 tokens j o [] = End o ∷ []
 tokens j o (b ∷ bs) =

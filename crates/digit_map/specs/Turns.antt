@@ -37,8 +37,8 @@ use Rattle.digit_map.specs.Limits.{Limits, sale}
 use Rattle.digit_map.specs.Acts.{fresh, onward, acts}
 
 -- where a token stands: behind fields, of which the next has the number at least; in a field, whose letter
--- stands at an offset; in an
--- alternative; in a set, long or not, that opened at an offset; behind the closing round bracket
+-- stands at an offset; in an alternative; in a set, long or not, that opened at an offset; behind the closing
+-- round bracket
 pub data Spot : Type 0 where
   in-head : ℕ → Spot
   in-field : Field → ℕ → Digits → Spot

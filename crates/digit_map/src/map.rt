@@ -7,8 +7,7 @@ use crate::draft::Draft;
 pub mod places;
 
 // A house's map: its timers, and the places of its alternatives one behind another, each alternative's end as
-// its last place. It has an
-// alternative, every position has a key, and every alternative needs one.
+// its last place. It has an alternative, every position has a key, and every alternative needs one.
 #[derive(Clone, Copy)]
 pub struct Map {
     draft: Draft,

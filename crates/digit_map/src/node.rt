@@ -10,8 +10,8 @@ pub struct Position {
 }
 
 // A place of an alternative: the position that is awaited there, or none at its end; the mark in force; and
-// whether a mark stands right
-// before it. An alternative is held exactly when a mark stands right before its end.
+// whether a mark stands right before it. An alternative is held exactly when a mark stands right before its
+// end.
 #[derive(Clone, Copy)]
 pub struct Node {
     pub awaits: Option<Position>,

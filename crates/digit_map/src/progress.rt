@@ -13,8 +13,8 @@ pub enum Last {
 }
 
 // How far an alternative is read: the mark in force, whether one stands last (but for a Z), whether a
-// position without a dot was followed
-// by something else than a dot, the offset of its first byte, and the last thing read.
+// position without a dot was followed by something else than a dot, the offset of its first byte, and the
+// last thing read.
 #[derive(Clone, Copy)]
 pub struct Progress {
     pub mark: Mark,

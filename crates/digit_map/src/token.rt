@@ -1,6 +1,5 @@
 // A byte of the text with its blanks taken out: the byte, whether the next byte is a colon, and its offset.
-// The first blank of a run that
-// may not stand where it does is a token too, and so is the text's end.
+// The first blank of a run that may not stand where it does is a token too, and so is the text's end.
 #[derive(Clone, Copy)]
 pub enum Token {
     Byte(u8, bool, usize),

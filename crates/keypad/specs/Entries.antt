@@ -10,8 +10,7 @@ pub record Step : Type 0 where
   pub mark : Mark
 
 -- the steps, and the closing: the mark in force at the end, and whether the entry is held there. What remains
--- of an entry may have no
--- steps left; no map and no plan has such an entry
+-- of an entry may have no steps left; no map and no plan has such an entry
 pub record Entry : Type 0 where
   pub steps : List Step
   pub closing : Mark

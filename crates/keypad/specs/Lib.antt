@@ -1,2 +1,4 @@
 pub mod Entries
+pub mod Sets
+pub mod Answers
 pub mod Timing

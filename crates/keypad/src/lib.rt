@@ -1,3 +1,4 @@
-//! Keys, symbols, marks and timers: the words that every layer above shares.
+//! Keys, symbols, marks and timers, and what a plan is: the words that every layer above shares.
 pub mod key;
+pub mod plan;
 pub mod timers;

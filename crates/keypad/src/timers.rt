@@ -2,8 +2,7 @@ ghost use mathlib.Core.Path.{_≡_};
 ghost use Rattle.keypad.specs.Timing.{standard};
 
 // The start timer T, the short timer S and the long timer L in seconds, and the length Z above which a key is
-// long, in
-// tenths of a second.
+// long, in tenths of a second.
 #[derive(Clone, Copy, PartialEq, Eq, Debug)]
 pub struct Timers {
     pub start: u8,

@@ -1,0 +1,9 @@
+pub mod Members
+pub mod Symbols
+pub mod Spots
+pub mod Steps
+pub mod Finds
+pub mod Answers
+pub mod Upto
+pub mod Passed
+pub mod Reached

@@ -1,0 +1,8 @@
+-- A bit is read. Assumes nothing.
+use mathlib.Core.Path.{ap}
+use lib.Dec.{eqb}
+use Rattle.std.proofs.shelf.Bits.{and-mask}
+use Rattle.map_plan.proofs.places.Places.has.Needs as need
+
+pub returns : need.returns
+returns c = ap (λ x. eqb x 1) (and-mask _ 1)

@@ -1,0 +1,4 @@
+pub mod Members
+pub mod Asking
+pub mod Live
+pub mod Plans

@@ -1,0 +1,7 @@
+pub mod Questions
+pub mod Pairs
+pub mod Behind
+pub mod Writings
+pub mod Tellings
+pub mod Fronts
+pub mod Lots

@@ -1,0 +1,29 @@
+-- The keys of the code are unmarked; behind it the part tells. Assumes nothing.
+use mathlib.Core.Path.{sym, subst}
+use Prim.Native.Nat.{_≤_, _+_}
+use native.Mathlib.Omega.{arith}
+use lib.ListN.{length, getD, take, drop}
+use Rattle.keypad.specs.Entries.{Entries}
+use Rattle.keypad.specs.declared.key.Mark.the-variants.{Unmarked}
+use Rattle.keypad.specs.Answers.{Timing}
+use Rattle.plans.specs.Coded.{Behind}
+use Rattle.plans.proofs.Questions.{timing-same}
+use Rattle.plans.proofs.Behind.{timing-behind, spent, next-key, no-key}
+use Rattle.plans.proofs.coded.CodedPlanPlan.timing.Needs as need
+
+pub returns-then-self : need.returns-then-self
+returns-then-self g c =
+    let p = c .args .self .now in
+    let a : Entries = g .P·Plan .rest (p .part) in
+    let h : p .count ≤ length (p .keys) = omega arith in
+    subst (λ l. Timing (Behind l a) Unmarked) (sym
+    (next-key (p .keys) (p .count) (p .at) h (c .if-self .taken)))
+    (timing-behind (getD (p .keys) (p .at) 0) (drop (p .at + 1) (take (p .count) (p .keys))) a)
+
+pub returns-else-self : need.returns-else-self
+returns-else-self g c =
+    let p = c .args .self .now in
+    let a : Entries = g .P·Plan .rest (p .part) in
+    let h : p .count ≤ length (p .keys) = omega arith in
+    timing-same a _ (c .timing .result) (spent _ a
+    (no-key (p .keys) (p .count) (p .at) h (c .if-self .left))) (c .timing .ensures)
