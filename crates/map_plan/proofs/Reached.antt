@@ -88,10 +88,10 @@ module _ (ns : List Node) (live : Places) where
 
     pub reached-rest : Closed ns live → Same (Rest ns next) (remaining ns live o)
     reached-rest c e = (
-      λ x. let k = x .0 in reached-sound ns live o k (sym (settled k (says-inside ns k (x .2))) ∙ x .1)
-          (x .2),
-      λ x. let y = remaining-reached c o e x in
-          (y .0, settled (y .0) (says-inside ns (y .0) (y .2)) ∙ y .1, y .2),
+      λ x. let l = says-inside ns (x .0) (x .2) in
+          reached-sound ns live o (x .0) (sym (settled (x .0) l) ∙ x .1) (x .2),
+      λ x. let y = remaining-reached c o e x in let l = says-inside ns (y .0) (y .2) in
+          (y .0, settled (y .0) l ∙ y .1, y .2),
     )
 
     carried-on : (k : ℕ) → reached ns live o k ≡ true → dot-first (drop k ns) ≡ true →

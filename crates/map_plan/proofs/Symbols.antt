@@ -1,7 +1,7 @@
 -- The symbols that a position accepts are those that it takes, and marks are told apart. Assumes nothing.
 use mathlib.Core.Path.{_≡_, refl, ap, subst}
-use mathlib.Core.Bool.{Bool, true, false, not, _&&_}
-use Prim.Native.Nat.{ℕ, _<_}
+use mathlib.Core.Bool.{Bool, true, false, not}
+use Prim.Native.Nat.{ℕ}
 use lib.Dec.{ltb}
 use Rattle.std.proofs.shelf.Tests.{and-parts, and-from, ltb-true, lt-ltb, not-true, both-ways}
 use Rattle.keypad.specs.declared.key.Symbol.{Symbol}

@@ -7,7 +7,7 @@ use lib.ListN.{length, drop}
 use Rattle.std.specs.declared.option.Option.{Option}
 use Rattle.std.specs.declared.option.Option.the-variants.{Some, None}
 use Rattle.keypad.specs.declared.key.Symbol.{Symbol}
-use Rattle.keypad.specs.Entries.{Entry, Entries}
+use Rattle.keypad.specs.Entries.{Entries}
 use Rattle.keypad.specs.Sets.{After}
 use Rattle.digit_map.specs.declared.node.Node.{Node}
 use Rattle.digit_map.specs.Meaning.{Says, MapEntry}
@@ -30,8 +30,7 @@ Rest ns live e = (i : ℕ) × (holds live i ≡ true) × Says (drop i ns) e
 abbrev pub SomeLive : List Node → Places → Question → Type 0
 SomeLive ns live q = (i : ℕ) × (holds live i ≡ true) × (answered q (drop i ns) ≡ true)
 
--- the place i with the node n is passed: if it is live by a symbol that it takes, before any symbol if it is
--- an end
+-- the place i with the node n is passed: a live one by a symbol that it takes, an end before any symbol
 abbrev pub passing : Places → Option Symbol → ℕ → Node → Bool
 passing live (Some s) i n = holds live i && answer (Takes s) n
 passing live None i n = answer Ends n

@@ -2,8 +2,10 @@
 use Rattle.std.specs.declared.option.Option.{Option}
 use Rattle.keypad.specs.declared.key.Symbol.{Symbol}
 use Rattle.keypad.specs.Entries.{Entry, Entries}
+use Rattle.keypad.specs.Sets.{Same}
 use Rattle.digit_map.specs.Maps.{places}
 use Rattle.digit_map.specs.Meaning.{MapEntry}
+use Rattle.map_plan.specs.declared.places.Places.{Places}
 use Rattle.map_plan.specs.declared.plan.MapPlan.{MapPlan}
 use Rattle.map_plan.specs.declared.question.Question.{Question}
 use Rattle.map_plan.specs.Live.{Rest, SomeLive, remaining}
@@ -20,9 +22,9 @@ rest-of p = Rest (places (p .map)) (p .live)
 abbrev pub SomeAnswers : MapPlan → Question → Type 0
 SomeAnswers p q = SomeLive (places (p .map)) (p .live) q
 
--- what remains after a symbol; before any, the map's entries
-abbrev pub rest-after : MapPlan → Option Symbol → Entries
-rest-after p o = remaining (places (p .map)) (p .live) o
+-- the live places leave what remains after a symbol; before any, the map's entries
+abbrev pub Leaves : MapPlan → Option Symbol → Places → Type 0
+Leaves p o live = Same (Rest (places (p .map)) live) (remaining (places (p .map)) (p .live) o)
 
 -- no entry at all
 abbrev pub Empty : Entries → Type 0

@@ -1,11 +1,9 @@
-ghost use mathlib.Core.Path.{_≡_};
-ghost use Rattle.keypad.specs.Entries.{Entry};
 ghost use Rattle.keypad.specs.Sets.{Same};
 ghost use Rattle.digit_map.specs.Maps.{places};
 ghost use Rattle.digit_map.specs.Meaning.{MapEntry};
 ghost use Rattle.map_plan.specs.Plans.{whole-of, rest-of, Empty};
 use crate::live::any_live;
-use crate::live::reached;
+use crate::live::live_after;
 use crate::places::Places;
 use crate::plan::MapPlan;
 use crate::question::Question;
@@ -25,7 +23,7 @@ impl MapPlan {
             map,
             live: Places::none(),
         };
-        plan.live = reached(&plan, None);
+        plan.live = live_after(&plan, None);
         plan
     }
 }
@@ -36,7 +34,7 @@ pub impl Plan for MapPlan as MapPlanPlan {
     ghost rest = { rest-of };
 
     fn rewind(&mut self) {
-        self.live = reached(self, None);
+        self.live = live_after(self, None);
     }
 
     fn open(&self, symbol: Symbol) -> bool {
@@ -47,7 +45,7 @@ pub impl Plan for MapPlan as MapPlanPlan {
         if !self.open(symbol) {
             return false;
         }
-        self.live = reached(self, Some(symbol));
+        self.live = live_after(self, Some(symbol));
         true
     }
 

@@ -1,10 +1,9 @@
 ghost use mathlib.Core.Path.{_≡_};
 ghost use Prim.Native.Nat.{_<_};
-ghost use Rattle.keypad.specs.Sets.{Same};
 ghost use Rattle.keypad.specs.Answers.{Tells};
 ghost use Rattle.digit_map.specs.Maps.{places};
-ghost use Rattle.map_plan.specs.Live.{Closed, Rest, passing};
-ghost use Rattle.map_plan.specs.Plans.{SomeAnswers, rest-after};
+ghost use Rattle.map_plan.specs.Live.{Closed, passing};
+ghost use Rattle.map_plan.specs.Plans.{SomeAnswers, Leaves};
 use crate::answer::answer_at;
 use crate::answer::dotted;
 use crate::places::Places;
@@ -27,8 +26,8 @@ pub(crate) fn any_live(plan: &MapPlan, question: Question) -> bool
     false
 }
 
-// Whether the place is passed: a live one by a symbol that it takes, or before any symbol an alternative's
-// end.
+// Whether the place is passed: a live one by a symbol that it takes, or an alternative's end before any
+// symbol.
 fn passes(plan: &MapPlan, place: usize, node: Node, symbol: Option<Symbol>) -> bool
     requires { ⌜ place < 320 ⌝ }
     ensures { λ r. ⌜ r ≡ passing (now (plan .entry) .live) symbol place node ⌝ }
@@ -41,9 +40,9 @@ fn passes(plan: &MapPlan, place: usize, node: Node, symbol: Option<Symbol>) -> b
 
 // The places that are live after a symbol, or before any. A place is reached behind one that is passed, and
 // behind a live one with a dot; one with a dot that is passed stays live.
-pub(crate) fn reached(plan: &MapPlan, symbol: Option<Symbol>) -> Places
+pub(crate) fn live_after(plan: &MapPlan, symbol: Option<Symbol>) -> Places
     ensures closed { λ r. ⌜ Closed (places (now (plan .entry) .map)) r ⌝ }
-    ensures rest { λ r. ⌜ Same (Rest (places (now (plan .entry) .map)) r) (rest-after (now (plan .entry)) symbol) ⌝ }
+    ensures rest { λ r. ⌜ Leaves (now (plan .entry)) symbol r ⌝ }
 {
     let mut live = Places::none();
     let mut reached = symbol.is_none();

@@ -24,8 +24,8 @@ pub loop-place-again : need.loop-place-again
 loop-place-again c =
     let e = c .in-Some .ensures tt in
     let ns = places (c .args .plan .now .map) in
-    let at = ap (answered (c .args .question))
-    (read-at ns (c .loop-place .place) (c .in-Some .node) (e .0) (e .1)) in
+    let node = read-at ns (c .loop-place .place) (c .in-Some .node) (e .0) (e .1) in
+    let at = ap (answered (c .args .question)) node in
     below-more _ _ (c .loop-place .inv)
     (λ v a. elim (c .else-has .came) [
       | else-has·by·then-has·else-answer-at w ↦

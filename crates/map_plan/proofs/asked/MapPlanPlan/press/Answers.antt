@@ -12,5 +12,5 @@ pub returns : need.returns
 returns c =
     record {
       whole = λ e. (λ x. x, λ x. x);
-      rest = (c .if-not-open .ensures tt, c .reached-self .ensures .rest);
+      rest = (c .if-not-open .ensures tt, c .live-after-self .ensures .rest);
     }

@@ -3,7 +3,7 @@ use Prim.Native.Nat.{_-_}
 use lib.ListN.{length}
 use Rattle.digit_map.specs.Maps.{places}
 use Rattle.map_plan.proofs.Upto.{Upto}
-use Rattle.map_plan.proofs.live.reached.Given as given
+use Rattle.map_plan.proofs.live.live_after.Given as given
 
 abbrev pub Inv-loop-place : given.InvT-loop-place
 Inv-loop-place l = Upto (places (l .plan .map)) (l .plan .live) (l .symbol) (l .place) (l .live) (l .reached)

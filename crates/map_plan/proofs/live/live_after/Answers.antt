@@ -3,7 +3,7 @@ use Rattle.digit_map.specs.Maps.{places}
 use Rattle.map_plan.proofs.Spots.{read-at}
 use Rattle.map_plan.proofs.Upto.{upto-more}
 use Rattle.map_plan.proofs.Reached.{reached-rest, reached-closed}
-use Rattle.map_plan.proofs.live.reached.Needs as need
+use Rattle.map_plan.proofs.live.live_after.Needs as need
 
 pub loop-place-again : need.loop-place-again
 loop-place-again c =
@@ -23,6 +23,7 @@ returns c =
     let h = c .in-rest .ensures tt in
     record {
       closed = reached-closed ns (p .live) (c .args .symbol) (l .place) (l .live) (l .reached) (l .inv) h;
-      rest = reached-rest ns (p .live) (c .args .symbol) (l .place) (l .live) (l .reached) (l .inv) h
+      rest =
+          reached-rest ns (p .live) (c .args .symbol) (l .place) (l .live) (l .reached) (l .inv) h
           (p .closed);
     }
