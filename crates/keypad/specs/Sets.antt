@@ -7,6 +7,10 @@ use Rattle.keypad.specs.declared.key.Symbol.{Symbol}
 use Rattle.keypad.specs.declared.key.Mark.{Mark}
 use Rattle.keypad.specs.Entries.{Step, Entry, Entries, step, ended, prepend}
 
+-- no entry at all
+abbrev pub Empty : Entries → Type 0
+Empty a = (e : Entry) → a e → ⊥
+
 -- the same entries
 abbrev pub Same : Entries → Entries → Type 0
 Same a b = (e : Entry) → (a e → b e) × (b e → a e)

@@ -25,7 +25,3 @@ SomeAnswers p q = SomeLive (places (p .map)) (p .live) q
 -- the live places leave what remains after a symbol; before any, the map's entries
 abbrev pub Leaves : MapPlan → Option Symbol → Places → Type 0
 Leaves p o live = Same (Rest (places (p .map)) live) (remaining (places (p .map)) (p .live) o)
-
--- no entry at all
-abbrev pub Empty : Entries → Type 0
-Empty a = (e : Entry) → a e → ⊥

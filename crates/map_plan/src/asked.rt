@@ -1,7 +1,7 @@
-ghost use Rattle.keypad.specs.Sets.{Same};
+ghost use Rattle.keypad.specs.Sets.{Empty, Same};
 ghost use Rattle.digit_map.specs.Maps.{places};
 ghost use Rattle.digit_map.specs.Meaning.{MapEntry};
-ghost use Rattle.map_plan.specs.Plans.{whole-of, rest-of, Empty};
+ghost use Rattle.map_plan.specs.Plans.{whole-of, rest-of};
 use crate::live::any_live;
 use crate::live::live_after;
 use crate::places::Places;

@@ -15,7 +15,8 @@ use Rattle.keypad.specs.declared.key.Mark.the-variants.{Unmarked, Short, Long}
 use Rattle.keypad.specs.Entries.{Step, Entry, Entries, step, prepend, ended}
 use Rattle.keypad.specs.Sets.{Same, Starts, Ended, Settled, GoesOn, Under}
 use Rattle.keypad.specs.Answers.{Tells, Pressed, Timing}
-use Rattle.plans.specs.Keyed.{behind, Empty}
+use Rattle.keypad.specs.Sets.{Empty}
+use Rattle.plans.specs.Keyed.{behind}
 use Rattle.plans.proofs.Questions.{Question, tells-same}
 use Rattle.plans.specs.Coded.{Behind, Any, Sized, Keys, Coded, Takes}
 

@@ -16,7 +16,7 @@ use Rattle.keypad.specs.declared.key.Mark.the-variants.{Unmarked, Short, Long}
 use Rattle.keypad.specs.Entries.{Step, Entry, Entries, step, ended, prepend}
 use Rattle.keypad.specs.Sets.{Same, Starts, After, Ended, Settled, GoesOn, Under}
 use Rattle.keypad.specs.Answers.{Pressed, Timing}
-use Rattle.plans.specs.Keyed.{Empty}
+use Rattle.keypad.specs.Sets.{Empty}
 use Rattle.plans.specs.Writings.{writing}
 use Rattle.plans.specs.Lots.{numbered, Fitting, listed, listed-after, Begins}
 use Rattle.plans.proofs.Fronts.{no-steps, awaited, awaited-behind, never-long}

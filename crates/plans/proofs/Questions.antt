@@ -7,7 +7,7 @@ use Rattle.keypad.specs.declared.key.Mark.the-variants.{Unmarked, Short, Long}
 use Rattle.keypad.specs.Entries.{Entry, Entries}
 use Rattle.keypad.specs.Sets.{Same, Starts, Ended, Settled, GoesOn, Under}
 use Rattle.keypad.specs.Answers.{Tells, Pressed, Timing}
-use Rattle.plans.specs.Keyed.{Empty}
+use Rattle.keypad.specs.Sets.{Empty}
 use Rattle.plans.specs.Pairs.{Either}
 
 -- a question that one entry answers: no entry says no, and more entries say yes again

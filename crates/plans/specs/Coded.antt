@@ -10,7 +10,8 @@ use Rattle.keypad.specs.Entries.{Entry, Entries}
 use Rattle.keypad.specs.Sets.{Same}
 use Rattle.plans.specs.declared.refusal.Refusal.{Refusal}
 use Rattle.plans.specs.declared.refusal.Refusal.the-variants.{CodeLength, CodeKey, Width, Lots}
-use Rattle.plans.specs.Keyed.{behind, Empty}
+use Rattle.keypad.specs.Sets.{Empty}
+use Rattle.plans.specs.Keyed.{behind}
 
 -- the entries of a set, each behind the keys
 abbrev pub Behind : List ℕ → Entries → Entries

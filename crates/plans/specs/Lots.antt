@@ -10,7 +10,8 @@ use Rattle.keypad.specs.Entries.{Entry, Entries, ended}
 use Rattle.keypad.specs.Sets.{Same}
 use Rattle.plans.specs.declared.refusal.Refusal.{Refusal}
 use Rattle.plans.specs.declared.refusal.Refusal.the-variants.{CodeLength, CodeKey, Width, Lots}
-use Rattle.plans.specs.Keyed.{behind, Empty}
+use Rattle.keypad.specs.Sets.{Empty}
+use Rattle.plans.specs.Keyed.{behind}
 use Rattle.plans.specs.Writings.{writing}
 
 -- the entry of n in w digits: its writing, unmarked and not held

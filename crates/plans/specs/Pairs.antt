@@ -5,7 +5,7 @@ use Rattle.keypad.specs.declared.key.Mark.{Mark}
 use Rattle.keypad.specs.declared.key.Mark.the-variants.{Unmarked, Short, Long}
 use Rattle.keypad.specs.Entries.{Entries}
 use Rattle.keypad.specs.Sets.{Same}
-use Rattle.plans.specs.Keyed.{Empty}
+use Rattle.keypad.specs.Sets.{Empty}
 
 -- the entries of the one and those of the other
 abbrev pub Either : Entries → Entries → Entries
