@@ -1,0 +1,5 @@
+pub mod Standings
+pub mod Words
+pub mod Listings
+pub mod Keys
+pub mod Rows

@@ -1,0 +1,4 @@
+pub mod Makes
+pub mod Letters
+pub mod Blanks
+pub mod Outcomes
