@@ -1,4 +1,6 @@
 //! Reads rows of a map and events, and prints each row with what a line reports and how many events are left.
+#![tactic(auto)]
+
 mod escape;
 mod play;
 mod row;

@@ -1,4 +1,6 @@
 //! The text of a map: its readers, its faults, and the map that a text stands for.
+#![tactic(auto)]
+
 mod alternative;
 mod blank;
 pub mod draft;

@@ -1,4 +1,6 @@
 //! The line that tells the fault of a map's text.
+#![tactic(auto)]
+
 ghost use Rattle.std.specs.Prelude.{◌≡◌, IfOk, string_bytes};
 ghost use Rattle.fault_line.specs.Told.{told};
 

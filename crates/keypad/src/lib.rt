@@ -1,4 +1,6 @@
 //! Keys, symbols, marks and timers, and what a plan is: the words that every layer above shares.
+#![tactic(auto)]
+
 pub mod key;
 pub mod plan;
 pub mod timers;

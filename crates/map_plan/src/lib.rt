@@ -1,4 +1,6 @@
 //! A map as a plan: where its alternatives stand after the symbols pressed.
+#![tactic(auto)]
+
 mod answer;
 pub mod asked;
 mod live;

@@ -1,4 +1,6 @@
 //! Texts and what reading them answers, in tables.
+#![tactic(auto)]
+
 #[cfg(test)]
 mod tests {
     use digit_map::node::Node;

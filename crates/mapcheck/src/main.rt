@@ -1,4 +1,6 @@
 //! Reads map texts, one to a line, and tells of each what it has or what is wrong with it.
+#![tactic(auto)]
+
 use map_report::report::report_lines;
 use std::io;
 use std::io::Read;

@@ -1,4 +1,6 @@
 //! Plans, and what they refuse, open and take, in tables.
+#![tactic(auto)]
+
 #[cfg(test)]
 mod tests {
     use keypad::key::Symbol;

@@ -1,4 +1,6 @@
 //! Reads lines that keep a map, lots or a code, or that show a plan made of them, and prints what each gives.
+#![tactic(auto)]
+
 mod kept;
 mod make;
 mod part;

@@ -1,4 +1,6 @@
 //! The cases of a sale: what the contracts of the calls say of each of them.
+#![tactic(auto)]
+
 ghost use Rattle.sale_cases.specs.Cases.{SaleCases};
 
 // Nothing is done: what counts is the contract.

@@ -1,4 +1,6 @@
 //! Reads sales, each ended by a line of four equals signs, and prints what each prints and such a line.
+#![tactic(auto)]
+
 mod runs;
 
 use crate::runs::run_all;

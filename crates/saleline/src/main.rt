@@ -1,4 +1,6 @@
 //! Reads the text of a map, and then commands for a keypad line, one to a line, and prints what each brings.
+#![tactic(auto)]
+
 use sale::session::sell;
 use std::io;
 use std::io::{Read, Write};
