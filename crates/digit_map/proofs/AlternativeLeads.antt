@@ -5,13 +5,11 @@ use Rattle.std.proofs.lemmas.List.{append-nil}
 use Rattle.keypad.specs.declared.key.Mark.{Mark}
 use Rattle.keypad.specs.declared.timers.Timers.{Timers}
 use Rattle.digit_map.specs.declared.fault.Cause.TheVariants as cause
-use Rattle.digit_map.specs.declared.sign.Field.{Field}
 use Rattle.digit_map.specs.declared.sign.Sign.{Sign}
 use Rattle.digit_map.specs.declared.sign.Sign.TheVariants as sign
 use Rattle.digit_map.specs.declared.token.Token.{Token}
 use Rattle.digit_map.specs.declared.token.Token.TheVariants.{Byte, End}
 use Rattle.digit_map.specs.declared.node.Node.{Node}
-use Rattle.digit_map.specs.declared.progress.Last.{Last}
 use Rattle.digit_map.specs.declared.progress.Last.TheVariants as last
 use Rattle.digit_map.specs.declared.progress.Progress.{Progress}
 use Rattle.digit_map.specs.declared.progress.Act.{Act}
@@ -21,8 +19,8 @@ use Rattle.digit_map.specs.Signs.{sign_of}
 use Rattle.digit_map.specs.Nodes.{position, awaiting, ending, dot_last_lem, needs_key, count_positions}
 use Rattle.digit_map.specs.Limits.{Limits}
 use Rattle.digit_map.specs.Acts.{progress, onward, fresh, in_number_lem, has_room, at_halt, acts}
-use Rattle.digit_map.specs.Turns.{State, Turn, on, done, bad, state, frame, in_alternative, in_set, closed}
-use Rattle.digit_map.specs.Turns.{acted, halts, turn_alternative}
+use Rattle.digit_map.specs.Turns.{state, frame, in_alternative, in_set, closed}
+use Rattle.digit_map.specs.Turns.{acted, turn_alternative}
 use Rattle.digit_map.specs.Grammar as g
 use Rattle.digit_map.specs.Grammar.{Choice, Elements, none, mark_more, dot_more, Final, nothing, mark, dot}
 use Rattle.digit_map.specs.Grammar.{is_mark, Alternative, elements, Front, barred, Whole, several, Admitted}
@@ -33,8 +31,7 @@ use Rattle.digit_map.specs.Standing.{Standing}
 use Rattle.digit_map.proofs.NodeLaws.{Filled, filled_push, positions-++, positions_dot_last, dot_last-++}
 use Rattle.digit_map.proofs.ElementLaws.{Facts, facts, first_push, onward_is}
 use Rattle.digit_map.proofs.ElementPass.{not_held, not_waiting}
-use Rattle.digit_map.proofs.WholePass.{without_end}
-use Rattle.digit_map.proofs.SignLaws.{Written, byte_of}
+use Rattle.digit_map.proofs.SignLaws.{byte_of}
 use Rattle.digit_map.proofs.Leads.{Leads, started, behind_position, regroup}
 
 module _ (L : Limits) {s : List Token} {t : Timers} {b : Bool} {n : ℕ} {ns : List Node}

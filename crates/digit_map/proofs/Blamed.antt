@@ -1,8 +1,7 @@
 -- A fault that shows stops the reader, at a fault that comes before it. Assumes nothing.
-use Rattle.std.proofs.Common.{◌≡◌, ℕ, ◌+◌, ◌<◌, ◌≤◌, Bool, true, false, cond, not, ◌&&◌, eqb, ltb, leb, ◌⊎◌, List, [], ◌∷◌, ◌++◌, sym, refl, ap, ◌∙◌, subst, inl, inr, append_assoc, arith, lit<}
+use Rattle.std.proofs.Common.{◌≡◌, ℕ, ◌<◌, ◌≤◌, Bool, true, false, not, eqb, leb, ◌⊎◌, List, [], ◌∷◌, ◌++◌, sym, refl, ap, ◌∙◌, subst, inl, inr, append_assoc, arith, lit<}
 use Rattle.std.proofs.lemmas.Bool.Decides.{nat_tests}
-use Rattle.std.proofs.lemmas.Bool.{cond_both, cond-true, cond-false, lt-leb, le-ltb, and_left, and_right, cases_lt, not_from_false}
-use Rattle.keypad.specs.declared.key.Mark.{Mark}
+use Rattle.std.proofs.lemmas.Bool.{cond-true, cond-false, lt-leb, le-ltb, and_left, and_right, cases_lt, not_from_false}
 use Rattle.keypad.specs.declared.timers.Timers.{Timers}
 use Rattle.digit_map.specs.declared.fault.Cause.TheVariants as cause
 use Rattle.digit_map.specs.declared.fault.Fault.{Fault}
@@ -25,18 +24,18 @@ use Rattle.digit_map.specs.declared.progress.Frame.{Frame}
 use Rattle.digit_map.specs.declared.progress.Act.{Act}
 use Rattle.digit_map.specs.declared.progress.Act.TheVariants.{Wrong}
 use Rattle.digit_map.specs.Faults.{cause_number, fault}
-use Rattle.digit_map.specs.Bytes.{letter, key_letter_lem, digit, field_letter}
+use Rattle.digit_map.specs.Bytes.{digit, field_letter}
 use Rattle.digit_map.specs.Signs.{sign_of}
 use Rattle.digit_map.specs.Offsets.{at_of, Ascends}
 use Rattle.digit_map.specs.Nodes.{count_positions}
 use Rattle.digit_map.specs.Fields.{rank, field_turn}
 use Rattle.digit_map.specs.Limits.{sale}
-use Rattle.digit_map.specs.Acts.{has_room, in_number_lem, if_held, unless_held, at_dot, at_halt, acts}
+use Rattle.digit_map.specs.Acts.{has_room, in_number_lem, if_held, unless_held, at_dot, at_halt}
 use Rattle.digit_map.specs.Turns.{State, Turn, on, done, bad, state, frame, in_alternative, turn, turn_head}
 use Rattle.digit_map.specs.Turns.{turn_alternative, turn_closed, acted, fielded, in_set_turned}
 use Rattle.digit_map.specs.Grammar as g
 use Rattle.digit_map.specs.Grammar.{Begun, Final, nothing, mark, dot}
-use Rattle.digit_map.specs.Standing.{behind_elements, last_of, Read, free, held, Stands, in_the_head}
+use Rattle.digit_map.specs.Standing.{Read, free, held, Stands, in_the_head}
 use Rattle.digit_map.specs.Standing.{in_a_field, in_an_alternative, in_a_set, behind_bracket, Standing}
 use Rattle.digit_map.specs.Situations.{token_sign_lem, Solid, number_at, Outside, FieldMay, InField, InSet}
 use Rattle.digit_map.specs.Situations.{LastPosition, LastHold, LastFree, LastNeedless, BehindPosition}

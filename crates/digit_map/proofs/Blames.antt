@@ -1,5 +1,5 @@
 -- A token that the reader stops at shows the fault that it answers. Assumes nothing.
-use Rattle.std.proofs.Common.{◌≡◌, ℕ, ◌+◌, ◌<◌, ◌≤◌, Bool, true, false, cond, not, ◌&&◌, ltb, leb, ◌⊎◌, List, [], ◌∷◌, ◌++◌, sym, refl, ap, ◌∙◌, subst, inl, inr, ⊎_elim, arith}
+use Rattle.std.proofs.Common.{◌≡◌, ℕ, Bool, true, false, cond, not, ◌&&◌, ltb, leb, ◌⊎◌, List, [], ◌∷◌, ◌++◌, sym, refl, ap, ◌∙◌, subst, inl, inr, ⊎_elim, arith}
 use Rattle.std.proofs.lemmas.Bool.{cond_both, leb-false, ltb-false, and_cases, and_parts, not-true}
 use Rattle.keypad.specs.declared.timers.Timers.{Timers}
 use Rattle.digit_map.specs.declared.fault.Cause.TheVariants as cause
@@ -21,7 +21,7 @@ use Rattle.digit_map.specs.declared.progress.Last.TheVariants as last
 use Rattle.digit_map.specs.declared.progress.Progress.{Progress}
 use Rattle.digit_map.specs.declared.progress.Frame.{Frame}
 use Rattle.digit_map.specs.declared.progress.Act.{Act}
-use Rattle.digit_map.specs.declared.progress.Act.TheVariants.{Go, Put, AddDot, OpenSet, Halt, Wrong}
+use Rattle.digit_map.specs.declared.progress.Act.TheVariants.{Halt, Wrong}
 use Rattle.digit_map.specs.Faults.{fault}
 use Rattle.digit_map.specs.Signs.{sign_of}
 use Rattle.digit_map.specs.Offsets.{at_of}
@@ -29,7 +29,7 @@ use Rattle.digit_map.specs.Nodes.{count_positions}
 use Rattle.digit_map.specs.Sets.{set_turn}
 use Rattle.digit_map.specs.Fields.{rank, field_turn}
 use Rattle.digit_map.specs.Limits.{sale}
-use Rattle.digit_map.specs.Acts.{has_room, in_number_lem, if_held, unless_held, at_halt, at_dot, acts}
+use Rattle.digit_map.specs.Acts.{has_room, in_number_lem, if_held, unless_held, at_halt, at_dot}
 use Rattle.digit_map.specs.Turns.{State, Turn, on, done, bad, state, start, in_head, in_field, in_alternative}
 use Rattle.digit_map.specs.Turns.{in_set, closed, turn, turn_head, turn_alternative, turn_closed, acted}
 use Rattle.digit_map.specs.Turns.{fielded, in_set_turned, run, went}
@@ -39,7 +39,7 @@ use Rattle.digit_map.specs.Situations.{token_sign_lem, Solid, number_at, LastFre
 use Rattle.digit_map.specs.Situations.{LastNeedless, Ends, TakesZ, BeginsPosition, BeginsElement}
 use Rattle.digit_map.specs.Shows.{Barred, Faulty, field_misplaced, field_broken, set_broken}
 use Rattle.digit_map.specs.Shows.{dot_misplaced, hold_misplaced, keyless, position_excess}
-use Rattle.digit_map.specs.Shows.{alternative_excess, Shows}
+use Rattle.digit_map.specs.Shows.{alternative_excess}
 use Rattle.digit_map.proofs.Runs.{run_join}
 use Rattle.digit_map.proofs.WholePass.{whole_pass}
 use Rattle.digit_map.proofs.StandPass.{stands_pass}

@@ -1,19 +1,19 @@
 -- The reader answers the fault that decides. Assumes nothing.
-use Rattle.std.proofs.Common.{◌≡◌, ℕ, ◌+◌, ◌<◌, ◌≤◌, Bool, true, false, cond, eqb, ◌⊎◌, List, [], ◌∷◌, ◌++◌, sym, refl, ap, ◌∙◌, subst, inl, inr, append_assoc, arith}
+use Rattle.std.proofs.Common.{◌≡◌, ℕ, ◌+◌, cond, eqb, List, [], ◌∷◌, ◌++◌, sym, refl, ap, ◌∙◌, subst, inl, inr, append_assoc, arith}
 use Rattle.digit_map.specs.declared.fault.Cause.{Cause}
 use Rattle.digit_map.specs.declared.fault.Cause.TheVariants as cause
 use Rattle.digit_map.specs.declared.fault.Fault.{Fault}
 use Rattle.digit_map.specs.declared.token.Token.{Token}
-use Rattle.digit_map.specs.Faults.{cause_number, fault}
+use Rattle.digit_map.specs.Faults.{cause_number}
 use Rattle.digit_map.specs.Offsets.{at_of, Ascends}
 use Rattle.digit_map.specs.Limits.{sale}
 use Rattle.digit_map.specs.Turns.{State, Turn, on, done, bad, start, fault_in_lem, turn, run, went}
 use Rattle.digit_map.specs.Standing.{Standing}
 use Rattle.digit_map.specs.Situations.{number_at}
-use Rattle.digit_map.specs.Shows.{Barred, Faulty, field_misplaced, field_broken, set_broken}
+use Rattle.digit_map.specs.Shows.{Faulty, field_misplaced, field_broken, set_broken}
 use Rattle.digit_map.specs.Shows.{dot_misplaced, hold_misplaced, keyless, position_excess}
 use Rattle.digit_map.specs.Shows.{alternative_excess, Shows, named, not_allowed, Before, Decides}
-use Rattle.digit_map.proofs.Runs.{run_join, Split, run_split}
+use Rattle.digit_map.proofs.Runs.{run_join}
 use Rattle.digit_map.proofs.StandPass.{stands_pass}
 use Rattle.digit_map.proofs.Leads.{Leads}
 use Rattle.digit_map.proofs.Exact.{leads, at_start}

@@ -1,20 +1,16 @@
 -- Laws of elements and of how far they are read. Assumes nothing.
 use Rattle.std.proofs.Common.{◌≡◌, ℕ, Bool, true, false, ◌||◌, List, [], ◌∷◌, ◌++◌, sym, refl, ap, ◌∙◌}
-use Rattle.std.proofs.lemmas.Bool.{or_right, or_cases}
 use Rattle.keypad.specs.declared.key.Mark.{Mark}
 use Rattle.digit_map.specs.declared.token.Token.{Token}
 use Rattle.digit_map.specs.declared.token.Token.TheVariants.{Byte}
 use Rattle.digit_map.specs.declared.node.Node.{Node}
 use Rattle.digit_map.specs.declared.progress.Last.{Last}
-use Rattle.digit_map.specs.declared.progress.Last.TheVariants as last
-use Rattle.digit_map.specs.declared.progress.Progress.{Progress}
 use Rattle.digit_map.specs.Nodes.{position, awaiting, dot_last_lem, needs_key}
 use Rattle.digit_map.specs.Acts.{progress, onward, first_at, needs_by}
-use Rattle.digit_map.specs.Grammar as g
-use Rattle.digit_map.specs.Grammar.{Choice, single, set, Placed, plain, long, Elements, none, mark_more}
+use Rattle.digit_map.specs.Grammar.{single, set, Placed, plain, long, Elements, none, mark_more}
 use Rattle.digit_map.specs.Grammar.{place_more, dot_more, Final, nothing, mark, place, dot, is_mark}
 use Rattle.digit_map.specs.Offsets.{at_of}
-use Rattle.digit_map.specs.Standing.{first_or, last_of, needs_before, behind_elements, behind_hold}
+use Rattle.digit_map.specs.Standing.{first_or, last_of, needs_before, behind_elements}
 use Rattle.digit_map.proofs.NodeLaws.{Filled, filled_push, needs-++, dot_last-++}
 
 -- what the last of some elements tells

@@ -1,5 +1,5 @@
 -- Elements are taken as the grammar has them. Assumes nothing.
-use Rattle.std.proofs.Common.{◌≡◌, ℕ, ◌+◌, ◌<◌, ◌≤◌, Bool, true, false, cond, ◌&&◌, ltb, leb, List, [], ◌∷◌, ◌++◌, sym, refl, ap, ◌∙◌, append_assoc, arith}
+use Rattle.std.proofs.Common.{◌≡◌, ℕ, ◌≤◌, Bool, true, false, List, [], ◌∷◌, ◌++◌, sym, refl, ap, ◌∙◌, append_assoc, arith}
 use Rattle.std.proofs.lemmas.Bool.{cond-true, le-leb, lt-ltb, and_from}
 use Rattle.keypad.specs.declared.key.Mark.{Mark}
 use Rattle.keypad.specs.declared.timers.Timers.{Timers}
@@ -7,12 +7,11 @@ use Rattle.digit_map.specs.declared.sign.Sign.TheVariants as sign
 use Rattle.digit_map.specs.declared.token.Token.{Token}
 use Rattle.digit_map.specs.declared.token.Token.TheVariants.{Byte}
 use Rattle.digit_map.specs.declared.node.Node.{Node}
-use Rattle.digit_map.specs.declared.progress.Last.{Last}
 use Rattle.digit_map.specs.declared.progress.Last.TheVariants as last
 use Rattle.digit_map.specs.declared.progress.Progress.{Progress}
 use Rattle.digit_map.specs.declared.progress.Frame.{Frame}
 use Rattle.digit_map.specs.declared.progress.Act.{Act}
-use Rattle.digit_map.specs.declared.progress.Act.TheVariants.{Go, Put, AddDot, OpenSet, Halt, Wrong}
+use Rattle.digit_map.specs.declared.progress.Act.TheVariants.{Go, Put, OpenSet}
 use Rattle.digit_map.specs.declared.set.Place.TheVariants as place
 use Rattle.digit_map.specs.Signs.{sign_of}
 use Rattle.digit_map.specs.Nodes.{position, awaiting, dot_last_lem, needs_key, count_positions}
@@ -22,8 +21,8 @@ use Rattle.digit_map.specs.Turns.{State, on, state, in_alternative, in_set, acte
 use Rattle.digit_map.specs.Grammar as g
 use Rattle.digit_map.specs.Grammar.{Choice, single, set, Placed, plain, long, Elements, none, mark_more}
 use Rattle.digit_map.specs.Grammar.{place_more, dot_more, Final, nothing, mark, dot, is_mark}
-use Rattle.digit_map.specs.Standing.{first_or, last_of, needs_before, behind_elements, behind_hold}
-use Rattle.digit_map.proofs.Runs.{run_on, run_step, run_chain}
+use Rattle.digit_map.specs.Standing.{first_or, last_of, behind_elements, behind_hold}
+use Rattle.digit_map.proofs.Runs.{run_on, run_chain}
 use Rattle.digit_map.proofs.NodeLaws.{Filled, positions-++, dot_last-++, positions_dot_last}
 use Rattle.digit_map.proofs.ElementLaws.{Facts, facts, needs_placed, first_push, onward_is}
 use Rattle.digit_map.proofs.SetPass.{set_pass}

@@ -1,26 +1,23 @@
 -- A text is read as the grammar has it. Assumes nothing.
-use Rattle.std.proofs.Common.{◌≡◌, ℕ, ◌+◌, ◌<◌, ◌≤◌, Bool, true, false, cond, leb, List, [], ◌∷◌, ◌++◌, sym, refl, ap, ◌∙◌, subst, append_assoc, arith}
+use Rattle.std.proofs.Common.{◌≡◌, ℕ, Bool, true, false, leb, List, [], ◌∷◌, ◌++◌, sym, refl, ap, ◌∙◌, subst, append_assoc, arith}
 use Rattle.std.proofs.lemmas.Bool.{cond_both, leb-true}
 use Rattle.std.proofs.lemmas.List.{append-nil}
 use Rattle.keypad.specs.declared.timers.Timers.{Timers}
-use Rattle.digit_map.specs.declared.fault.Fault.{Fault}
 use Rattle.digit_map.specs.declared.sign.Sign.{Sign}
 use Rattle.digit_map.specs.declared.sign.Sign.TheVariants as sign
 use Rattle.digit_map.specs.declared.token.Token.{Token}
 use Rattle.digit_map.specs.declared.token.Token.TheVariants.{Byte, Gap, End}
 use Rattle.digit_map.specs.declared.node.Node.{Node}
-use Rattle.digit_map.specs.declared.head.Digits.TheVariants as digits
 use Rattle.digit_map.specs.Signs.{sign_of}
 use Rattle.digit_map.specs.Fields.{rank}
 use Rattle.digit_map.specs.Limits.{Limits}
 use Rattle.digit_map.specs.Acts.{fresh}
-use Rattle.digit_map.specs.Turns.{State, Turn, on, done, bad, state, start, frame, in_head, in_field}
-use Rattle.digit_map.specs.Turns.{in_alternative, turn, turn_head, turn_alternative, turn_closed, run, went}
+use Rattle.digit_map.specs.Turns.{State, state, start, frame}
+use Rattle.digit_map.specs.Turns.{in_alternative, turn, turn_head, turn_alternative, turn_closed}
 use Rattle.digit_map.specs.Grammar as g
 use Rattle.digit_map.specs.Grammar.{Head, none, Front, bare, opened, Alternative, several, Whole, Admitted}
 use Rattle.digit_map.specs.Standing.{Stands, in_the_head, in_a_field, in_an_alternative, in_a_set}
 use Rattle.digit_map.specs.Standing.{behind_bracket, free, Limited, Standing}
-use Rattle.digit_map.proofs.Runs.{run_join}
 use Rattle.digit_map.proofs.SignLaws.{byte_of}
 use Rattle.digit_map.proofs.Leads.{Leads}
 use Rattle.digit_map.proofs.HeadLeads.{field_leads}

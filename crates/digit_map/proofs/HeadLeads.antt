@@ -1,5 +1,5 @@
 -- What a token in a head field leads to. Assumes nothing.
-use Rattle.std.proofs.Common.{◌≡◌, ℕ, ◌+◌, ◌-◌, ◌*◌, ◌≤◌, Bool, true, false, cond, ◌&&◌, eqb, List, [], ◌∷◌, ◌++◌, sym, refl, ap, ◌∙◌, subst, append_assoc}
+use Rattle.std.proofs.Common.{ℕ, ◌+◌, ◌-◌, ◌*◌, ◌≤◌, Bool, ◌&&◌, eqb, List, [], ◌∷◌, ◌++◌, sym, subst}
 use Rattle.std.proofs.lemmas.Bool.{cond_both, eqb-true, and_parts}
 use Rattle.keypad.specs.declared.timers.Timers.{Timers}
 use Rattle.digit_map.specs.declared.sign.Field.{Field}
@@ -14,7 +14,7 @@ use Rattle.digit_map.specs.Fields.{rank, fits, field_turn}
 use Rattle.digit_map.specs.Limits.{Limits}
 use Rattle.digit_map.specs.Turns.{fielded}
 use Rattle.digit_map.specs.Grammar.{Begun, colon, one, two, FieldText, short, long, Head, field}
-use Rattle.digit_map.specs.Standing.{Stands, in_the_head, in_a_field}
+use Rattle.digit_map.specs.Standing.{in_the_head, in_a_field}
 use Rattle.digit_map.proofs.Leads.{Leads, regroup}
 
 module _ (L : Limits) {s : List Token} {t : Timers} {k : ℕ} (head : Head s t k) (i : Field)

@@ -1,5 +1,5 @@
 -- What a token leads to stands as the grammar has it: the shared part. Assumes nothing.
-use Rattle.std.proofs.Common.{◌≡◌, ℕ, ◌+◌, ◌<◌, ◌≤◌, Bool, true, false, List, [], ◌∷◌, ◌++◌, sym, refl, ap, ◌∙◌, subst, append_assoc, arith}
+use Rattle.std.proofs.Common.{◌≡◌, ℕ, Bool, true, false, List, [], ◌∷◌, ◌++◌, sym, refl, ap, ◌∙◌, subst, append_assoc}
 use Rattle.keypad.specs.declared.key.Mark.{Mark}
 use Rattle.keypad.specs.declared.timers.Timers.{Timers}
 use Rattle.digit_map.specs.declared.token.Token.{Token}
@@ -7,16 +7,15 @@ use Rattle.digit_map.specs.declared.token.Token.TheVariants.{Byte}
 use Rattle.digit_map.specs.declared.node.Node.{Node}
 use Rattle.digit_map.specs.declared.progress.Last.TheVariants as last
 use Rattle.digit_map.specs.declared.progress.Progress.{Progress}
-use Rattle.digit_map.specs.Nodes.{position, awaiting, needs_key, dot_last_lem, count_positions}
+use Rattle.digit_map.specs.Nodes.{position, awaiting, needs_key, dot_last_lem}
 use Rattle.digit_map.specs.Limits.{Limits}
 use Rattle.digit_map.specs.Acts.{progress, onward}
 use Rattle.digit_map.specs.Turns.{State, Turn, on, done, bad, state, frame, in_alternative}
-use Rattle.digit_map.specs.Grammar as g
-use Rattle.digit_map.specs.Grammar.{Choice, single, set, Placed, plain, long, Elements, place_more, Final}
+use Rattle.digit_map.specs.Grammar.{Choice, single, set, plain, long, place_more}
 use Rattle.digit_map.specs.Grammar.{is_mark, Front, Admitted}
-use Rattle.digit_map.specs.Standing.{first_or, behind_elements, behind_hold, Read, free, held, Started}
+use Rattle.digit_map.specs.Standing.{first_or, behind_hold, Read, free, held, Started}
 use Rattle.digit_map.specs.Standing.{Stands, in_an_alternative, Limited, Standing}
-use Rattle.digit_map.proofs.NodeLaws.{Filled, filled_push, positions-++}
+use Rattle.digit_map.proofs.NodeLaws.{Filled, filled_push}
 use Rattle.digit_map.proofs.ElementLaws.{needs_placed, first_push, onward_is}
 
 -- what a token behind p leads to

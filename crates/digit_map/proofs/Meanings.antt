@@ -1,12 +1,12 @@
 -- Every proper map has an entry from each place on, and none without steps. Assumes nothing.
-use Rattle.std.proofs.Common.{◌≡◌, ℕ, zero, suc, ◌<◌, Bool, true, false, List, [], ◌∷◌, ◌++◌, length, drop, Some, None, Option, refl, ap, subst, arith}
+use Rattle.std.proofs.Common.{◌≡◌, ℕ, zero, suc, ◌<◌, Bool, true, false, List, [], ◌∷◌, ◌++◌, length, drop, Some, None, Option, refl, subst, arith}
 use Rattle.std.proofs.lemmas.Bool.{both_ways, and_parts}
 use Rattle.keypad.specs.declared.key.Mark.{Mark}
 use Rattle.keypad.specs.declared.key.Symbol.{Symbol}
 use Rattle.keypad.specs.Entries.{Entry, ended}
 use Rattle.digit_map.specs.declared.node.Position.{Position}
 use Rattle.digit_map.specs.declared.node.Node.{Node}
-use Rattle.digit_map.specs.Nodes.{awaiting, ending, no_position, count_ends}
+use Rattle.digit_map.specs.Nodes.{awaiting, no_position, count_ends}
 use Rattle.digit_map.specs.Meaning.{symbol_of_lem, Takes, one_of, Says, closes, takes, repeats, skips}
 use Rattle.digit_map.specs.Meaning.{is_end, whole_alternatives, Stepped, Meant}
 use Rattle.digit_map.specs.Proper.{owes, proper_from, proper}

@@ -1,9 +1,9 @@
 -- Laws of the places of alternatives. Assumes nothing.
-use Rattle.std.proofs.Common.{◌≡◌, ℕ, ◌+◌, Bool, true, false, ◌||◌, List, [], ◌∷◌, ◌++◌, Some, None, Option, sym, refl, ap, ◌∙◌, add_assoc, zero-add, arith}
+use Rattle.std.proofs.Common.{◌≡◌, ◌+◌, Bool, true, false, ◌||◌, List, [], ◌∷◌, ◌++◌, Some, None, Option, sym, refl, ap, ◌∙◌, add_assoc, zero-add}
 use Rattle.digit_map.specs.declared.node.Position.{Position}
 use Rattle.digit_map.specs.declared.node.Node.{Node}
 use Rattle.digit_map.specs.Nodes.{some_position, no_position, count_positions, count_ends, with_dot_lem}
-use Rattle.digit_map.specs.Nodes.{dotted_node, dot_last_lem, needed, needs_key}
+use Rattle.digit_map.specs.Nodes.{dot_last_lem, needed, needs_key}
 
 -- a list with something in it
 abbrev pub Filled : {A : Type 0} → List A → Type 0

@@ -3,7 +3,7 @@ use Rattle.std.proofs.Common.{◌≡◌, ℕ, ◌+◌, ◌<◌, ◌≤◌, Bool,
 use Rattle.std.proofs.lemmas.Bool.{cond_both}
 use Rattle.digit_map.specs.declared.token.Token.{Token}
 use Rattle.digit_map.specs.Bytes.{blank, joint}
-use Rattle.digit_map.specs.Tokens.{joint_ahead, token, tokens}
+use Rattle.digit_map.specs.Tokens.{joint_ahead, tokens}
 use Rattle.digit_map.specs.Offsets.{at_of, Ascends}
 
 -- tokens from n on are tokens from any earlier offset on

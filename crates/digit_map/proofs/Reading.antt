@@ -1,6 +1,6 @@
 -- A text is read exactly: as its map, or with its fault. Assumes nothing.
-use Rattle.std.proofs.Common.{◌≡◌, ℕ, ◌<◌, ◌≤◌, Bool, true, false, cond, ◌&&◌, ltb, leb, ◌⊎◌, List, [], length, Ok, Err, Result, sym, refl, ap, ◌∙◌, subst, inl, inr, ⊎_elim, arith}
-use Rattle.std.proofs.lemmas.Bool.{cond-true, cond-false, and_parts, and_from, and_cases, and_left, and_right, ltb-true, leb-true, ltb-false, leb-false, lt-ltb, le-leb, le-ltb, lt-leb, cases_Bool}
+use Rattle.std.proofs.Common.{◌≡◌, ℕ, ◌<◌, ◌≤◌, Bool, true, false, ltb, leb, ◌⊎◌, List, [], length, Ok, Err, sym, refl, ap, ◌∙◌, subst, inl, inr, ⊎_elim, arith}
+use Rattle.std.proofs.lemmas.Bool.{cond-true, cond-false, and_parts, and_from, and_cases, and_left, and_right, ltb-true, leb-true, ltb-false, leb-false, lt-ltb, le-leb, le-ltb, lt-leb}
 use Rattle.keypad.specs.declared.timers.Timers.{Timers}
 use Rattle.digit_map.specs.declared.fault.Cause.TheVariants as cause
 use Rattle.digit_map.specs.declared.fault.Fault.{Fault}
@@ -13,10 +13,8 @@ use Rattle.digit_map.specs.Drafts.{drafted}
 use Rattle.digit_map.specs.Proper.{proper}
 use Rattle.digit_map.specs.Maps.{places, timers_of}
 use Rattle.digit_map.specs.Limits.{sale}
-use Rattle.digit_map.specs.Turns.{Turn, done, bad, start, run}
+use Rattle.digit_map.specs.Turns.{done, bad, start, run}
 use Rattle.digit_map.specs.Reads.{sized, reads, DraftRead}
-use Rattle.digit_map.specs.Shows.{Decides}
-use Rattle.digit_map.specs.Meaning.{Meant}
 use Rattle.digit_map.specs.Derives.{Derives, FaultOf, by_length, by_token, ReadExactly}
 use Rattle.digit_map.proofs.WholePass.{whole_pass}
 use Rattle.digit_map.proofs.Exact.{at_start}

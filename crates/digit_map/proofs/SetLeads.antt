@@ -1,5 +1,5 @@
 -- What a token inside a set leads to. Assumes nothing.
-use Rattle.std.proofs.Common.{◌≡◌, ℕ, ◌+◌, ◌-◌, ◌^◌, ◌<◌, ◌≤◌, Bool, true, false, cond, ◌&&◌, eqb, leb, List, [], ◌∷◌, ◌++◌, sym, refl, ap, ◌∙◌, subst, append_assoc, arith}
+use Rattle.std.proofs.Common.{◌≡◌, ℕ, ◌-◌, ◌<◌, ◌≤◌, Bool, true, false, ◌&&◌, eqb, leb, List, [], ◌∷◌, ◌++◌, sym, refl, ap, ◌∙◌, subst, append_assoc, arith}
 use lib.Bits.{bit_or}
 use Rattle.std.proofs.lemmas.Bool.Decides.{nat_tests}
 use Rattle.std.proofs.lemmas.Bool.{cond_both, eqb-true, and_parts}
@@ -10,10 +10,10 @@ use Rattle.digit_map.specs.declared.node.Node.{Node}
 use Rattle.digit_map.specs.declared.progress.Last.TheVariants as last
 use Rattle.digit_map.specs.declared.progress.Progress.{Progress}
 use Rattle.digit_map.specs.declared.set.Place.{Place}
-use Rattle.digit_map.specs.declared.set.Place.TheVariants.{Start, Member, Digit, From}
+use Rattle.digit_map.specs.declared.set.Place.TheVariants.{Member, From}
 use Rattle.digit_map.specs.declared.set.SetTurn.{SetTurn}
 use Rattle.digit_map.specs.declared.set.SetTurn.TheVariants.{On, Done, Bad}
-use Rattle.digit_map.specs.Bytes.{digit, key_letter_lem, letter_key}
+use Rattle.digit_map.specs.Bytes.{digit, key_letter_lem}
 use Rattle.digit_map.specs.Nodes.{position, awaiting, count_positions}
 use Rattle.digit_map.specs.Sets.{span, set_turn, at_member}
 use Rattle.digit_map.specs.Limits.{Limits}

@@ -1,5 +1,5 @@
 -- A set is taken as the grammar has it. Assumes nothing.
-use Rattle.std.proofs.Common.{◌≡◌, ℕ, ◌+◌, ◌-◌, ◌^◌, ◌≤◌, Bool, true, false, cond, ◌&&◌, eqb, leb, List, [], ◌∷◌, ◌++◌, sym, refl, ap, ◌∙◌, append_assoc, arith}
+use Rattle.std.proofs.Common.{◌≡◌, ℕ, ◌-◌, ◌^◌, ◌≤◌, Bool, true, false, List, [], ◌∷◌, ◌++◌, refl, ap, ◌∙◌, arith}
 use lib.Bits.{bit_or}
 use Rattle.std.proofs.lemmas.Bool.Decides.{nat_tests}
 use Rattle.keypad.specs.declared.timers.Timers.{Timers}
@@ -8,7 +8,7 @@ use Rattle.digit_map.specs.declared.token.Token.TheVariants.{Byte}
 use Rattle.digit_map.specs.declared.node.Node.{Node}
 use Rattle.digit_map.specs.declared.set.Place.{Place}
 use Rattle.digit_map.specs.declared.set.Place.TheVariants.{Start, Member, Digit, From}
-use Rattle.digit_map.specs.declared.set.SetTurn.TheVariants.{On, Done, Bad}
+use Rattle.digit_map.specs.declared.set.SetTurn.TheVariants.{On, Done}
 use Rattle.digit_map.specs.declared.progress.Last.TheVariants as last
 use Rattle.digit_map.specs.declared.progress.Progress.{Progress}
 use Rattle.digit_map.specs.declared.progress.Frame.{Frame}

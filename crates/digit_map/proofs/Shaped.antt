@@ -1,5 +1,5 @@
 -- A text's tokens end once, and what is read of them to their end is admitted. Assumes nothing.
-use Rattle.std.proofs.Common.{◌≡◌, ℕ, ◌+◌, ◌<◌, ◌≤◌, Bool, true, false, cond, ◌&&◌, ◌||◌, List, [], ◌∷◌, ◌++◌, sym, refl, ap, ◌∙◌, subst, append_assoc, arith}
+use Rattle.std.proofs.Common.{◌≡◌, ℕ, ◌+◌, Bool, true, ◌||◌, List, [], ◌∷◌, ◌++◌, sym, refl, ap, ◌∙◌, subst, append_assoc, arith}
 use Rattle.std.proofs.lemmas.Bool.{cond_both}
 use Rattle.std.proofs.lemmas.List.{same_from_push}
 use Rattle.keypad.specs.declared.timers.Timers.{Timers}
@@ -8,7 +8,7 @@ use Rattle.digit_map.specs.declared.token.Token.{Token}
 use Rattle.digit_map.specs.declared.token.Token.TheVariants.{Byte, Gap, End}
 use Rattle.digit_map.specs.declared.node.Node.{Node}
 use Rattle.digit_map.specs.Bytes.{blank, joint}
-use Rattle.digit_map.specs.Tokens.{joint_ahead, token, tokens}
+use Rattle.digit_map.specs.Tokens.{joint_ahead, tokens}
 use Rattle.digit_map.specs.Spacing.{gapless}
 use Rattle.digit_map.specs.Limits.{Limits}
 use Rattle.digit_map.specs.Turns.{Spot, in_head, in_field, in_alternative, in_set, closed, State, Turn, on}

@@ -1,11 +1,10 @@
 -- Which bytes have a sign. Assumes nothing.
-use Rattle.std.proofs.Common.{◌≡◌, ℕ, ◌-◌, ◌^◌, Bool, true, false, cond, ◌&&◌, eqb, sym, refl, ap, subst}
+use Rattle.std.proofs.Common.{◌≡◌, ℕ, Bool, true, ◌&&◌, eqb, subst}
 use Rattle.std.proofs.lemmas.Bool.{cond_both, eqb-true, and_parts, or_left, or_right}
-use Rattle.keypad.specs.declared.key.Mark.TheVariants as mark
 use Rattle.digit_map.specs.declared.sign.Field.{Field}
 use Rattle.digit_map.specs.declared.sign.Sign.{Sign}
 use Rattle.digit_map.specs.declared.sign.Sign.TheVariants as sign
-use Rattle.digit_map.specs.Bytes.{digit, letter, field_letter, key_letter_lem, letter_key}
+use Rattle.digit_map.specs.Bytes.{digit, letter, field_letter, key_letter_lem}
 use Rattle.digit_map.specs.Signs.{sign_of}
 
 -- the byte of a sign that only one byte has

@@ -1,7 +1,6 @@
 -- The tokens before a place in a text are taken as far as that place. Assumes nothing.
-use Rattle.std.proofs.Common.{◌≡◌, ℕ, ◌+◌, ◌<◌, ◌≤◌, Bool, true, false, List, [], ◌∷◌, ◌++◌, sym, refl, ap, ◌∙◌, append_assoc, arith}
+use Rattle.std.proofs.Common.{◌≡◌, ℕ, ◌+◌, ◌<◌, ◌≤◌, Bool, true, false, List, [], ◌∷◌, ◌++◌, refl, ap, ◌∙◌, arith}
 use Rattle.std.proofs.lemmas.Bool.{le-leb, lt-ltb, and_from}
-use Rattle.std.proofs.lemmas.List.{append-nil}
 use Rattle.keypad.specs.declared.key.Mark.{Mark}
 use Rattle.keypad.specs.declared.timers.Timers.{Timers}
 use Rattle.digit_map.specs.declared.sign.Sign.TheVariants as sign
@@ -15,17 +14,16 @@ use Rattle.digit_map.specs.Signs.{sign_of}
 use Rattle.digit_map.specs.Nodes.{ending, count_positions}
 use Rattle.digit_map.specs.Limits.{Limits}
 use Rattle.digit_map.specs.Acts.{fresh, has_room}
-use Rattle.digit_map.specs.Turns.{State, on, state, start, frame, in_head, in_alternative, in_set, closed}
+use Rattle.digit_map.specs.Turns.{State, on, state, start, frame, in_head, in_alternative, in_set}
 use Rattle.digit_map.specs.Turns.{acted, run}
-use Rattle.digit_map.specs.Grammar as g
 use Rattle.digit_map.specs.Grammar.{Elements, none, mark_more, place_more, dot_more, Final, is_mark}
-use Rattle.digit_map.specs.Grammar.{Alternative, elements, Front}
-use Rattle.digit_map.specs.Standing.{behind_elements, behind_hold, last_of, Inside, Read, free, held, Started}
+use Rattle.digit_map.specs.Grammar.{elements, Front}
+use Rattle.digit_map.specs.Standing.{behind_elements, last_of, Inside, Read, free, held, Started}
 use Rattle.digit_map.specs.Standing.{Stands, in_the_head, in_a_field, in_an_alternative, in_a_set}
-use Rattle.digit_map.specs.Standing.{behind_bracket, InLimits, Limited, Standing}
-use Rattle.digit_map.proofs.Runs.{run_on, run_step, run_chain}
-use Rattle.digit_map.proofs.NodeLaws.{Filled, filled_push, positions-++}
-use Rattle.digit_map.proofs.ElementLaws.{placed_filled, facts}
+use Rattle.digit_map.specs.Standing.{behind_bracket, InLimits, Limited}
+use Rattle.digit_map.proofs.Runs.{run_on, run_chain}
+use Rattle.digit_map.proofs.NodeLaws.{filled_push, positions-++}
+use Rattle.digit_map.proofs.ElementLaws.{placed_filled}
 use Rattle.digit_map.proofs.HeadPass.{head_pass, begun_pass}
 use Rattle.digit_map.proofs.SetPass.{inside_pass}
 use Rattle.digit_map.proofs.ElementPass.{elements_pass, hold_pass, Takes, takes_free, takes_held}

@@ -1,6 +1,6 @@
 -- Whole texts, and the tokens before a place, are taken as the grammar has them. Assumes nothing.
-use Rattle.std.proofs.Common.{◌≡◌, ℕ, ◌+◌, ◌<◌, ◌≤◌, Bool, true, false, cond, not, ◌&&◌, List, [], ◌∷◌, ◌++◌, sym, refl, ap, ◌∙◌, append_assoc, arith}
-use Rattle.std.proofs.lemmas.Bool.{cond-true, cond-false, le-leb, lt-ltb, and_from, and_right, not_from_true, both_ways}
+use Rattle.std.proofs.Common.{◌≡◌, ℕ, ◌+◌, ◌≤◌, Bool, true, false, cond, not, ◌&&◌, List, [], ◌∷◌, ◌++◌, sym, refl, ap, ◌∙◌, append_assoc, arith}
+use Rattle.std.proofs.lemmas.Bool.{cond-false, and_right, not_from_true, both_ways}
 use Rattle.std.proofs.lemmas.List.{append-nil}
 use Rattle.keypad.specs.declared.key.Mark.{Mark}
 use Rattle.keypad.specs.declared.timers.Timers.{Timers}
@@ -11,29 +11,23 @@ use Rattle.digit_map.specs.declared.token.Token.{Token}
 use Rattle.digit_map.specs.declared.token.Token.TheVariants.{Byte, End}
 use Rattle.digit_map.specs.declared.node.Node.{Node}
 use Rattle.digit_map.specs.declared.progress.Frame.{Frame}
-use Rattle.digit_map.specs.declared.progress.Progress.{Progress}
-use Rattle.digit_map.specs.declared.progress.Act.{Act}
-use Rattle.digit_map.specs.declared.progress.Act.TheVariants.{Halt, Wrong, OpenSet}
-use Rattle.digit_map.specs.declared.set.Place.TheVariants as place
+use Rattle.digit_map.specs.declared.progress.Act.TheVariants.{Halt, Wrong}
 use Rattle.digit_map.specs.Signs.{sign_of}
 use Rattle.digit_map.specs.Nodes.{ending, needs_key, count_positions}
 use Rattle.digit_map.specs.Limits.{Limits}
-use Rattle.digit_map.specs.Acts.{acts, at_halt, fresh, has_room, in_number_lem}
-use Rattle.digit_map.specs.Turns.{State, Turn, on, done, state, start, frame, in_head, in_alternative, in_set}
-use Rattle.digit_map.specs.Turns.{closed, turn, turn_head, turn_alternative, acted, halts, run, went}
+use Rattle.digit_map.specs.Acts.{at_halt, fresh}
+use Rattle.digit_map.specs.Turns.{State, Turn, on, done, state, start, frame, in_head, in_alternative}
+use Rattle.digit_map.specs.Turns.{turn, turn_head, turn_alternative, acted, halts, run, went}
 use Rattle.digit_map.specs.Grammar as g
 use Rattle.digit_map.specs.Grammar.{Head, Placed, plain, long, single, set, Elements, none, mark_more}
 use Rattle.digit_map.specs.Grammar.{place_more, dot_more, Final, nothing, mark, dot, is_mark, Alternative}
 use Rattle.digit_map.specs.Grammar.{elements, Front, bare, opened, barred, Whole, several}
-use Rattle.digit_map.specs.Standing.{behind_elements, behind_hold, last_of, Read, free, held, Started, Stands}
-use Rattle.digit_map.specs.Standing.{in_the_head, in_a_field, in_an_alternative, in_a_set, behind_bracket}
-use Rattle.digit_map.specs.Standing.{Limited, InLimits, Standing}
-use Rattle.digit_map.proofs.Runs.{run_on, run_join, run_step, run_chain}
-use Rattle.digit_map.proofs.NodeLaws.{Filled, filled_push, positions-++}
+use Rattle.digit_map.specs.Standing.{behind_elements, last_of}
+use Rattle.digit_map.proofs.Runs.{run_join, run_step, run_chain}
+use Rattle.digit_map.proofs.NodeLaws.{Filled, positions-++}
 use Rattle.digit_map.proofs.ElementLaws.{Facts, facts}
-use Rattle.digit_map.proofs.HeadPass.{head_pass, begun_pass}
-use Rattle.digit_map.proofs.SetPass.{inside_pass}
-use Rattle.digit_map.proofs.ElementPass.{elements_pass, hold_pass, not_held}
+use Rattle.digit_map.proofs.HeadPass.{head_pass}
+use Rattle.digit_map.proofs.ElementPass.{elements_pass}
 
 -- elements that need a key may end
 pub may_halt : {u : List Token} {us : List Node} {m : Mark} {e : Final} → Elements u us m e →

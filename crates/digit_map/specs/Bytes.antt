@@ -1,5 +1,5 @@
 -- The bytes of a map's text, by kind. Assumes nothing.
-use Rattle.std.specs.Prelude.{ℕ, ◌+◌, ◌-◌, Bool, true, false, cond, ◌&&◌, ◌||◌, ◌==◌, nat_le}
+use Rattle.std.specs.Prelude.{ℕ, ◌+◌, ◌-◌, Bool, cond, ◌&&◌, ◌||◌, ◌==◌, nat_le}
 
 -- space, tab, carriage return, line feed
 abbrev pub blank : ℕ → Bool

@@ -1,5 +1,5 @@
 -- The causes of faults and their numbers. Assumes nothing.
-use Rattle.std.specs.Prelude.{ℕ, Bool, cond, ◌||◌, eqb, ltb}
+use Rattle.std.specs.Prelude.{ℕ}
 use Rattle.digit_map.specs.declared.fault.Cause.{Cause}
 use Rattle.digit_map.specs.declared.fault.Cause.TheVariants.{Length, Head, Byte, Set, Affix, Keyless, Excess}
 use Rattle.digit_map.specs.declared.fault.Fault.{Fault}

@@ -1,5 +1,5 @@
 -- What each reader answers, by the tokens that it takes. Assumes nothing.
-use Rattle.std.specs.Prelude.{◌≡◌, ℕ, ◌+◌, ◌<◌, ◌≤◌, Bool, true, false, cond, ◌&&◌, List, [], ◌∷◌, ◌++◌, length, drop, Some, None, Ok, Err, MatchBool, Option, Result, nat_le, nat_lt}
+use Rattle.std.specs.Prelude.{◌≡◌, ℕ, ◌+◌, ◌<◌, ◌≤◌, Bool, true, false, cond, ◌&&◌, List, [], ◌∷◌, ◌++◌, length, drop, Some, None, Ok, Err, Option, Result, nat_le, nat_lt}
 use Rattle.keypad.specs.declared.timers.Timers.{Timers}
 use Rattle.digit_map.specs.declared.fault.Cause.TheVariants as cause
 use Rattle.digit_map.specs.declared.fault.Fault.{Fault}
@@ -24,7 +24,7 @@ use Rattle.digit_map.specs.Drafts.{drafted}
 use Rattle.digit_map.specs.Fields.{rank, timed}
 use Rattle.digit_map.specs.Limits.{sale}
 use Rattle.digit_map.specs.Acts.{fresh, onward}
-use Rattle.digit_map.specs.Turns.{Turn, on, done, bad, in_head, in_field, in_alternative, in_set, closed}
+use Rattle.digit_map.specs.Turns.{Turn, done, bad, in_head, in_field, in_alternative, in_set, closed}
 use Rattle.digit_map.specs.Turns.{state, start, halts, run, went}
 
 -- a token's byte inside a set or a field, in alternative n

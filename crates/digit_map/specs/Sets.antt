@@ -1,5 +1,5 @@
 -- The inside of a set, byte by byte. Assumes nothing.
-use Rattle.std.specs.Prelude.{ℕ, ◌+◌, ◌-◌, ◌^◌, ◌<◌, Bool, true, false, cond, ◌&&◌, ◌||◌, ◌==◌, bit_or, nat_le}
+use Rattle.std.specs.Prelude.{ℕ, ◌+◌, ◌-◌, ◌^◌, ◌<◌, cond, ◌&&◌, ◌==◌, bit_or, nat_le}
 use Rattle.digit_map.specs.declared.set.Place.{Place}
 use Rattle.digit_map.specs.declared.set.Place.TheVariants.{Start, Member, Digit, From}
 use Rattle.digit_map.specs.declared.set.SetTurn.{SetTurn}

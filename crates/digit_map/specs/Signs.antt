@@ -1,7 +1,6 @@
 -- What a byte stands for outside sets and fields. Assumes nothing.
 use Rattle.std.specs.Prelude.{ℕ, ◌-◌, ◌^◌, Bool, cond, ◌&&◌, ◌==◌}
 use Rattle.keypad.specs.declared.key.Mark.TheVariants as mark
-use Rattle.digit_map.specs.declared.sign.Field.{Field}
 use Rattle.digit_map.specs.declared.sign.Field.TheVariants as field
 use Rattle.digit_map.specs.declared.sign.Sign.{Sign}
 use Rattle.digit_map.specs.declared.sign.Sign.TheVariants as sign

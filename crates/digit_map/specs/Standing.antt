@@ -5,7 +5,7 @@ use Rattle.keypad.specs.declared.timers.Timers.{Timers}
 use Rattle.digit_map.specs.declared.sign.Field.{Field}
 use Rattle.digit_map.specs.declared.sign.Sign.TheVariants as sign
 use Rattle.digit_map.specs.declared.token.Token.{Token}
-use Rattle.digit_map.specs.declared.token.Token.TheVariants.{Byte, Gap, End}
+use Rattle.digit_map.specs.declared.token.Token.TheVariants.{Byte}
 use Rattle.digit_map.specs.declared.node.Node.{Node}
 use Rattle.digit_map.specs.declared.set.Place.{Place}
 use Rattle.digit_map.specs.declared.set.Place.TheVariants as place
@@ -23,7 +23,7 @@ use Rattle.digit_map.specs.Limits.{Limits}
 use Rattle.digit_map.specs.Acts.{progress}
 use Rattle.digit_map.specs.Turns.{Spot, in_head, in_field, in_alternative, in_set, closed, State, state}
 use Rattle.digit_map.specs.Turns.{frame}
-use Rattle.digit_map.specs.Grammar.{Begun, Head, Member, Members, Elements, Alternative, Front, Final}
+use Rattle.digit_map.specs.Grammar.{Begun, Head, Members, Elements, Alternative, Front, Final}
 use Rattle.digit_map.specs.Grammar.{nothing, mark, place, dot, is_mark}
 
 -- the offset of the first token, or o where there is none

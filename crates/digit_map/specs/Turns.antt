@@ -1,5 +1,5 @@
 -- A text read token by token. Assumes nothing.
-use Rattle.std.specs.Prelude.{◌≡◌, ℕ, ◌+◌, ◌<◌, ◌≤◌, Bool, true, false, cond, not, List, [], ◌∷◌, ◌++◌, nat_le}
+use Rattle.std.specs.Prelude.{ℕ, ◌+◌, Bool, true, false, cond, List, [], ◌∷◌, ◌++◌, nat_le}
 use Rattle.keypad.specs.declared.timers.Timers.{Timers}
 use Rattle.keypad.specs.Timing.{standard}
 use Rattle.digit_map.specs.declared.fault.Cause.{Cause}
@@ -29,7 +29,7 @@ use Rattle.digit_map.specs.Signs.{sign_of}
 use Rattle.digit_map.specs.Nodes.{position, awaiting, ending, count_positions, dot_last_lem}
 use Rattle.digit_map.specs.Sets.{set_turn}
 use Rattle.digit_map.specs.Fields.{rank, timed, field_turn}
-use Rattle.digit_map.specs.Limits.{Limits, sale}
+use Rattle.digit_map.specs.Limits.{Limits}
 use Rattle.digit_map.specs.Acts.{fresh, onward, acts}
 
 -- where a token stands: behind fields, of which the next has the number at least; in a field, whose letter

@@ -1,5 +1,5 @@
 -- Sets of entries, and what remains of them. Assumes nothing.
-use Rattle.std.specs.Prelude.{◌≡◌, List, [], ◌∷◌, Bool, true, false, ◌⊎◌}
+use Rattle.std.specs.Prelude.{List, [], ◌∷◌, Bool, false, ◌⊎◌}
 use Rattle.keypad.specs.declared.key.Symbol.{Symbol}
 use Rattle.keypad.specs.declared.key.Mark.{Mark}
 use Rattle.keypad.specs.Entries.{Step, Entry, Entries, step, ended, prepend}

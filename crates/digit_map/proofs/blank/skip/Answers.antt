@@ -4,7 +4,7 @@ use Rattle.digit_map.proofs.blank.skip.Goals as goal
 
 pub loop-i-preserved : goal.loop-i-preserved
 loop-i-preserved c =
-    let e = sym c.if-is-blank.ensures in
+    let e = sym c.if-is_blank.ensures in
     let h = c.loop-i-test.true in (
       omega arith,
       omega arith,

@@ -3,22 +3,22 @@ use Rattle.std.proofs.lemmas.Result.{err_from_is_err_and}
 use Rattle.digit_map.proofs.Wholes.{whole_ok, whole_bad}
 use Rattle.digit_map.proofs.read.read_text.Goals as goal
 
-pub returns-in-err-read-alternatives : goal.returns-in-err-read-alternatives
-returns-in-err-read-alternatives c =
-    let out = c.from-residual-in-err-read-alternatives in
+pub returns-in_err-read_alternatives : goal.returns-in_err-read_alternatives
+returns-in_err-read_alternatives c =
+    let out = c.from_residual-in_err-read_alternatives in
     let p = err_from_is_err_and out.result out.ensures.1 in
-    let k = c.in-ok-timers in
+    let k = c.in_ok-timers in
     rw (p.1, p.2)
-    (whole_bad c.args.text.now c.if-is-empty.ensures c.if-text-gt2048.false k.timers
+    (whole_bad c.args.text.now c.if-is_empty.ensures c.if-text-gt2048.false k.timers
     k.head
-    c.begin-draft.result c.read-alternatives.new.draft k.ensures
+    c.begin-draft.result c.read_alternatives.new.draft k.ensures
     c.begin-draft.ensures.timers
-    c.in-err-read-alternatives.ensures)
+    c.in_err-read_alternatives.ensures)
 
 pub returns : goal.returns
 returns c =
-    let k = c.in-ok-timers in
-    whole_ok c.args.text.now c.if-is-empty.ensures c.if-text-gt2048.false k.timers k.head
-    c.begin-draft.result c.read-alternatives.new.draft k.ensures
+    let k = c.in_ok-timers in
+    whole_ok c.args.text.now c.if-is_empty.ensures c.if-text-gt2048.false k.timers k.head
+    c.begin-draft.result c.read_alternatives.new.draft k.ensures
     c.begin-draft.ensures.timers
-    c.in-ok-read-alternatives.ensures
+    c.in_ok-read_alternatives.ensures

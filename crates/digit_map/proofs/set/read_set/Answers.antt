@@ -2,25 +2,25 @@ use Rattle.std.proofs.lemmas.Result.{err_from_is_err_and}
 use Rattle.digit_map.proofs.SetRuns.{set_broken, set_on, set_done, set_bad}
 use Rattle.digit_map.proofs.set.read_set.Goals as goal
 
-pub returns-in-err-byte : goal.returns-in-err-byte
-returns-in-err-byte c =
-    let p = err_from_is_err_and c.from-residual.result c.from-residual.ensures.1 in
+pub returns-in_err-byte : goal.returns-in_err-byte
+returns-in_err-byte c =
+    let p = err_from_is_err_and c.from_residual.result c.from_residual.ensures.1 in
     rw (p.1, p.2)
-    (set_broken c.bytes.invariant c.next-token-token.ensures c.in-err-byte.ensures)
+    (set_broken c.bytes.invariant c.next_token-token.ensures c.in_err-byte.ensures)
 
 pub bytes-preserved : goal.bytes-preserved
 bytes-preserved c =
-    let g = c.in-ok-byte.ensures in
+    let g = c.in_ok-byte.ensures in
     let e = c.in-On.ensures in
-    set_on c.bytes.invariant c.next-token-token.ensures g e.value e.sound
+    set_on c.bytes.invariant c.next_token-token.ensures g e.value e.sound
 
 pub returns-in-Done : goal.returns-in-Done
 returns-in-Done c =
-    let g = c.in-ok-byte.ensures in
+    let g = c.in_ok-byte.ensures in
     let e = c.in-Done.ensures in
-    set_done c.bytes.invariant c.next-token-token.ensures g e.value
+    set_done c.bytes.invariant c.next_token-token.ensures g e.value
 
 pub returns-in-Bad : goal.returns-in-Bad
 returns-in-Bad c =
-    let g = c.in-ok-byte.ensures in
-    set_bad c.bytes.invariant c.next-token-token.ensures g c.in-Bad.ensures.value
+    let g = c.in_ok-byte.ensures in
+    set_bad c.bytes.invariant c.next_token-token.ensures g c.in-Bad.ensures.value

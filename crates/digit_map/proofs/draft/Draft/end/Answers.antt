@@ -11,15 +11,20 @@ bounds-self-self c =
     let k = counts_take m.nodes m.len (omega arith) in
     omega arith
 
-pub invariant-of-self : goal.invariant-of-self
-invariant-of-self c =
+pub invariant_of-self : goal.invariant_of-self
+invariant_of-self c =
     let m = c.args.self.now in
     let k = counts_take m.nodes m.len (omega arith) in
     let h : m.len < length m.nodes = omega arith in
     let n = ending c.args.mark c.args.marked in
     let p = positions_put m.nodes m.len n h in
     let e = ends_put m.nodes m.len n h in
-    (length-set m.nodes m.len n ∙ m.full, (omega arith, (omega arith, (omega arith, tt))))
+    record {
+      full = length-set m.nodes m.len n ∙ m.full;
+      few = omega arith;
+      counted = omega arith;
+      ended = omega arith;
+    }
 
 pub returns : goal.returns
 returns c =
