@@ -15,7 +15,7 @@ use Rattle.map_plan.specs.Members.{holds}
 use Rattle.map_plan.specs.Asking.{accepts_at, answered, has_dot, dot_first}
 use Rattle.map_plan.specs.Live.{remaining}
 use Rattle.map_plan.proofs.Symbols.{accepts_sound}
-use Rattle.map_plan.proofs.Spots.{node, behind}
+use Rattle.map_plan.proofs.Spots.{node}
 use Rattle.map_plan.proofs.Upto.{passing_first, passed, carried, reached}
 
 one_more : (k : ℕ) (ns : List Node) → drop (suc k) ns ≡ drop 1 (drop k ns)

@@ -1,7 +1,7 @@
 -- The entries of a map's plan. Assumes nothing.
 use Rattle.std.specs.Prelude.{Option}
 use Rattle.keypad.specs.declared.key.Symbol.{Symbol}
-use Rattle.keypad.specs.Entries.{Entry, Entries}
+use Rattle.keypad.specs.Entries.{Entries}
 use Rattle.keypad.specs.Sets.{Same}
 use Rattle.digit_map.specs.Maps.{places}
 use Rattle.digit_map.specs.Meaning.{MapEntry}

@@ -1,5 +1,5 @@
 -- The lines of an input by the place of its first line feed. Assumes nothing.
-use Rattle.std.proofs.Common.{◌≡◌, ℕ, zero, suc, ◌<◌, false, cond, eqb, List, [], ◌∷◌, length, get_or, take, drop, refl, arith, ne_eqb}
+use Rattle.std.proofs.Common.{◌≡◌, ℕ, zero, suc, ◌<◌, false, eqb, List, [], ◌∷◌, length, get_or, take, drop, arith, ne_eqb}
 use Rattle.map_report.specs.Lines.{lines, in_front}
 
 -- a byte that is no line feed stands in front of the first line

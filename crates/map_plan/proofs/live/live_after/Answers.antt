@@ -11,16 +11,16 @@ loop-place-preserved c =
     let ns = places c.args.plan.now.map in
     let at = read_at ns c.loop-place.place c.in-Some.node e.0 e.1 in
     upto_more ns c.args.plan.now.live c.args.symbol c.loop-place.place c.loop-place.live
-    c.add-if.new.self c.in-Some.node c.loop-place.reached c.passes-passed.result
+    c.add_if.new.self c.in-Some.node c.loop-place.reached c.passes-passed.result
     c.dotted-repeats.result c.loop-place.invariant at e.0 c.passes-passed.ensures
-    c.dotted-repeats.ensures c.add-if.ensures
+    c.dotted-repeats.ensures c.add_if.ensures
 
 pub returns : goal.returns
 returns c =
     let p = c.args.plan.now in
     let ns = places p.map in
     let l = c.loop-place in
-    let h = c.in-default.ensures in
+    let h = c.in_default.ensures in
     record {
       closed = reached_closed ns p.live c.args.symbol l.place l.live l.reached l.invariant h;
       rest =

@@ -8,15 +8,15 @@ unfolding caret
 returns c ok =
     let wide = shown c.args.before.now in
     let filled =
-    c.in-ok-write-text.ensures refl
+    c.in_ok-write_text.ensures refl
     ∙ ap (λ (bs : List ℕ). bs ++ wide) c.new-margin.ensures.bytes in
     let width : c.len.result ≡ length wide =
-    c.len.ensures ∙ c.write-text.new.out.bytes.ok.0 ∙ ap length filled in
+    c.len.ensures ∙ c.write_text.new.out.bytes.ok.0 ∙ ap length filled in
     let whole = simp ok at c.push.ensures.bytes in
     cc (
       whole,
       c.push.ensures.ascii (lit< tt),
-      c.in-ok-write-spaces.ensures refl,
+      c.in_ok-write_spaces.ensures refl,
       width,
       append_assoc (string_bytes c.args.out.now) (replicate (length wide) 32) (94 ∷ []),
     )

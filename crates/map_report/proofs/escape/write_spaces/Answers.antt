@@ -7,8 +7,8 @@ pub loop-preserved : goal.loop-preserved
 loop-preserved c =
     cc (
       c.loop.invariant,
-      c.in-ok-push.ensures.bytes,
-      c.in-ok-push.ensures.ascii (lit< tt),
+      c.in_ok-push.ensures.bytes,
+      c.in_ok-push.ensures.ascii (lit< tt),
       replicate_more {X = ℕ} c.loop.counter 32,
       append_assoc (string_bytes c.args.out.now) (replicate c.loop.counter 32) (32 ∷ []),
     )

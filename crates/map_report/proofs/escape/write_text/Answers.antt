@@ -1,5 +1,5 @@
 -- A turn writes one byte more, and the last leaves none. Assumes nothing.
-use Rattle.std.proofs.Common.{◌≡◌, get_or, take, string_bytes, refl, append_assoc}
+use Rattle.std.proofs.Common.{get_or, take, string_bytes, refl, append_assoc}
 use Rattle.std.proofs.lemmas.List.{take_all}
 use Rattle.map_report.specs.Escapes.{escape, shown}
 use Rattle.map_report.proofs.Escapes.{shown_more}
@@ -11,7 +11,7 @@ loop-byte-preserved c =
     let n = c.loop-byte.byte-index in
     cc (
       c.loop-byte.invariant,
-      c.in-ok-write-byte.ensures refl,
+      c.in_ok-write_byte.ensures refl,
       shown_more text n c.loop-byte-test.true,
       append_assoc (string_bytes c.args.out.now) (shown (take n text)) (escape (get_or text n 0)),
     )

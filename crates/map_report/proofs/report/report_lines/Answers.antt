@@ -9,13 +9,13 @@ use Rattle.map_report.proofs.report.report_lines.Goals as goal
 pub loop-line-preserved : goal.loop-line-preserved
 loop-line-preserved c =
     let out = string_bytes c.loop-line.out in
-    let told = string_bytes c.in-ok-told.told in
-    let grown : string_bytes c.push-str.new.self ≡ out ++ told =
-    cc (c.in-ok-push-str.ensures.bytes, c.as-str.ensures.value) in
+    let told = string_bytes c.in_ok-told.told in
+    let grown : string_bytes c.push_str.new.self ≡ out ++ told =
+    cc (c.in_ok-push_str.ensures.bytes, c.as_str.ensures.value) in
     told_more _ _ _ _ _ _ _ c.loop-line.invariant c.in-Some.ensures.split
-    c.in-ok-told.ensures grown
+    c.in_ok-told.ensures grown
 
 pub returns : goal.returns
 returns c =
-    let none = subst (λ (bs : List ℕ). AllReported (lines bs) []) (sym c.in-default.ensures) refl in
+    let none = subst (λ (bs : List ℕ). AllReported (lines bs) []) (sym c.in_default.ensures) refl in
     rw append-nil at (c.loop-line.invariant [] none)

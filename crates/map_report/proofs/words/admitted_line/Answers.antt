@@ -7,8 +7,8 @@ pub returns : goal.returns
 unfolding summary
 returns c =
     simp (
-      sym c.in-ok-clocks.ensures,
-      sym c.in-ok-choices.ensures,
-      sym c.in-ok-steps.ensures,
+      sym c.in_ok-clocks.ensures,
+      sym c.in_ok-choices.ensures,
+      sym c.in_ok-steps.ensures,
     )
     c.format.ensures.ok

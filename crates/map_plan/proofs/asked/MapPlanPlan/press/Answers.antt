@@ -12,5 +12,5 @@ pub returns : goal.returns
 returns c =
     record {
       whole = λ e. (λ x. x, λ x. x);
-      rest = (c.if-not-open.ensures, c.live-after-self.ensures.rest);
+      rest = (c.if-not-open.ensures, c.live_after-self.ensures.rest);
     }

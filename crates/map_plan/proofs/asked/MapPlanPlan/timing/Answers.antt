@@ -4,17 +4,17 @@ use Rattle.keypad.specs.declared.key.Mark.TheVariants.{Short, Long}
 use Rattle.map_plan.proofs.Answers.{tells_under}
 use Rattle.map_plan.proofs.asked.MapPlanPlan.timing.Goals as goal
 
-pub returns-then-any-live : goal.returns-then-any-live
-returns-then-any-live c = tells_under c.args.self.now true Long c.if-any-live.ensures
+pub returns-then-any_live : goal.returns-then-any_live
+returns-then-any_live c = tells_under c.args.self.now true Long c.if-any_live.ensures
 
-pub returns-then-any-live-2 : goal.returns-then-any-live-2
-returns-then-any-live-2 c =
+pub returns-then-any_live-2 : goal.returns-then-any_live-2
+returns-then-any_live-2 c =
     let p = c.args.self.now in
-    let long = tells_under p false Long c.if-any-live.ensures in
-    (long, tells_under p true Short c.if-any-live-2.ensures)
+    let long = tells_under p false Long c.if-any_live.ensures in
+    (long, tells_under p true Short c.if-any_live-2.ensures)
 
-pub returns-else-any-live-2 : goal.returns-else-any-live-2
-returns-else-any-live-2 c =
+pub returns-else-any_live-2 : goal.returns-else-any_live-2
+returns-else-any_live-2 c =
     let p = c.args.self.now in
-    let long = tells_under p false Long c.if-any-live.ensures in
-    (long, tells_under p false Short c.if-any-live-2.ensures)
+    let long = tells_under p false Long c.if-any_live.ensures in
+    (long, tells_under p false Short c.if-any_live-2.ensures)

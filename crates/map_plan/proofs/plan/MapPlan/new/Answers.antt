@@ -9,6 +9,6 @@ returns c =
     let some = (meant (places c.args.map) (is_proper c.args.map)).some in
     record {
       whole = λ e. (λ x. x, λ x. x);
-      rest = c.live-after-plan.ensures.rest;
+      rest = c.live_after-plan.ensures.rest;
       filled = λ none. none some.0 some.1;
     }
