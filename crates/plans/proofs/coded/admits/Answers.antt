@@ -14,4 +14,4 @@ pub returns-else-satisfied : goal.returns-else-satisfied
 returns-else-satisfied g c =
     let a : Entries = g.P.Plan.rest c.args.part.now in
     any_goes a _ (subst (Tells (Ended a)) c.if-satisfied.false c.satisfied.ensures)
-    c.goes-on.ensures
+    c.goes_on.ensures

@@ -8,5 +8,5 @@ returns g c =
     let code = c.args.code.now in
     made code (take (length code) c.padded.result) (g.P.Plan.whole c.args.part)
     (g.P.Plan.whole c.rewind.new.self) (g.P.Plan.rest c.rewind.new.self)
-    (omega arith, omega arith) c.if-not-are-keys.ensures c.padded.ensures.items
+    (omega arith, omega arith) c.if-not-are_keys.ensures c.padded.ensures.items
     c.rewind.ensures.whole c.rewind.ensures.rest

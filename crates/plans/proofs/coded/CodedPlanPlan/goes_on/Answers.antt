@@ -22,5 +22,5 @@ pub returns-else-self : goal.returns-else-self
 returns-else-self g c =
     let p = c.args.self.now in
     let h : p.count ≤ length p.keys = omega arith in
-    tells_behind GoesOn goes _ (g.P.Plan.rest p.part) c.goes-on.result
-    (no_key p.keys p.count p.at h c.if-self.false) c.goes-on.ensures
+    tells_behind GoesOn goes _ (g.P.Plan.rest p.part) c.goes_on.result
+    (no_key p.keys p.count p.at h c.if-self.false) c.goes_on.ensures

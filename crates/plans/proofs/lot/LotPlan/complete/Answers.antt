@@ -15,10 +15,10 @@ sound p x =
 
 pub returns-then-self : goal.returns-then-self
 returns-then-self c = let p = c.args.self.now in
-    Decides-like c.any-begins.result
+    Decides-like c.any_begins.result
     (λ b. settled_complete (vec_items p.lots) p.width p.taken p.prefix (c.if-self.true, b))
     (λ x. (sound p x).1)
-    c.any-begins.ensures
+    c.any_begins.ensures
 
 pub returns-else-self : goal.returns-else-self
 returns-else-self c = let p = c.args.self.now in

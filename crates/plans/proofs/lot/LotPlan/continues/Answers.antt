@@ -18,8 +18,8 @@ returns c = let p = c.args.self.now in
     let ns = vec_items p.lots in
     let From : ℕ → Type 0 = λ d. LotBegins p (p.taken + 1) (p.prefix * 10 + d) in
     let same = c.from.ensures in
-    Decides-like c.any-begins.result
+    Decides-like c.any_begins.result
     (λ b. starts_complete ns p.width p.taken p.prefix c.args.key
     (omega (arith, c.if-self.false, p.within), omega arith, subst From same b))
     (λ x. subst From (sym same) (starts_sound ns p.width p.taken p.prefix c.args.key x).2)
-    c.any-begins.ensures
+    c.any_begins.ensures

@@ -1,5 +1,5 @@
 -- What is refused and why, and what a plan of lots admits. Assumes nothing.
-use Rattle.std.proofs.Common.{◌≤◌, length, vec_items, arith}
+use Rattle.std.proofs.Common.{vec_items, arith}
 use Rattle.plans.specs.LotsLemmas.{rewound_left, listed_barren, listed_empty}
 use Rattle.plans.proofs.lot.LotPlan.new.Goals as goal
 

@@ -11,14 +11,14 @@ returns g c =
     let a : Entries = g.P.Plan.rest p.first in
     let b : Entries = g.Q.Plan.rest p.second in
     timing_longer (Live p.first_in a) (Live p.second_in b) c.if-self.first_mark
-    c.if-self-2.second-mark
-    c.longer-mark.result c.longer-mark.ensures
+    c.if-self-2.second_mark
+    c.longer_mark.result c.longer_mark.ensures
     (elim c.if-self.branch [
-      | then-self w ↦ timing_in a _ _ _ w.if-self.true w.first-mark-is w.timing-first-mark.ensures
-      | else-self w ↦ timing_out a _ _ w.if-self.false w.first-mark-is
+      | then-self w ↦ timing_in a _ _ _ w.if-self.true w.first_mark-is w.timing-first_mark.ensures
+      | else-self w ↦ timing_out a _ _ w.if-self.false w.first_mark-is
     ])
     (elim c.if-self-2.branch [
       | then-self-2 w ↦ timing_in b _ _ _
-          w.if-self-2.true w.second-mark-is w.timing-second-mark.ensures
-      | else-self-2 w ↦ timing_out b _ _ w.if-self-2.false w.second-mark-is
+          w.if-self-2.true w.second_mark-is w.timing-second_mark.ensures
+      | else-self-2 w ↦ timing_out b _ _ w.if-self-2.false w.second_mark-is
     ])

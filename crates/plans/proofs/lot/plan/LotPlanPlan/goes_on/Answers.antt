@@ -7,10 +7,10 @@ use Rattle.plans.proofs.lot.plan.LotPlanPlan.goes_on.Goals as goal
 
 pub returns-then-self : goal.returns-then-self
 returns-then-self c = let p = c.args.self.now in
-    tells c.any-begins.result
+    tells c.any_begins.result
     (λ b. goes_on_complete (vec_items p.lots) p.width p.taken p.prefix (c.if-self.true, b))
     (λ x. (goes_on_sound (vec_items p.lots) p.width p.taken p.prefix x).1)
-    c.any-begins.ensures
+    c.any_begins.ensures
 
 pub returns-else-self : goal.returns-else-self
 returns-else-self c = let p = c.args.self.now in
