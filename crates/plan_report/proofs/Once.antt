@@ -1,5 +1,5 @@
 -- The same entries are told in one way only. Assumes nothing.
-use Rattle.std.proofs.Common.{◌≡◌, ℕ, Bool, true, false, List, [], ◌∷◌, ◌++◌, sym, refl, ap, ◌∙◌, subst}
+use Rattle.std.proofs.Common.{◌≡◌, ℕ, Bool, true, false, List, [], ◌∷◌, sym, refl, ◌∙◌, subst}
 use mathlib.Core.HLevel.{⊥_prop}
 use mathlib.Core.Logic.{∥∥₁_elim}
 use Rattle.keypad.specs.Answers.{Tells, Pressed, Timing}
@@ -10,11 +10,10 @@ use Rattle.keypad.specs.declared.key.Mark.TheVariants.{Unmarked, Short, Long}
 use Rattle.keypad.specs.declared.key.Symbol.{Symbol}
 use Rattle.plan_report.specs.declared.standing.Standing.{Standing}
 use Rattle.plan_report.specs.Keys.{LineTold, KeyTold}
-use Rattle.plan_report.specs.Listings.{Listed, named_if, symbols}
+use Rattle.plan_report.specs.Listings.{Listed, symbols}
 use Rattle.plan_report.specs.Rows.{following, RowTold}
 use Rattle.plan_report.specs.Standings.{Stands}
-use Rattle.plan_report.specs.Words.{key_line}
-use Rattle.plan_report.proofs.Rows.{same_trans, line_same, row_same}
+use Rattle.plan_report.proofs.Rows.{line_same, row_same}
 
 -- what holds, if only somehow, is not denied
 not_denied : (P : Type 0) → ∥ P ∥₁ → (P → ⊥) → ⊥

@@ -1,5 +1,5 @@
 -- What is printed of a line that says nothing, and what a line keeps. Assumes nothing.
-use Rattle.std.specs.Prelude.{◌≡◌, ℕ, List, [], ◌∷◌, Some, None, Ok, Err, Option, Result}
+use Rattle.std.specs.Prelude.{◌≡◌, ℕ, List, [], ◌∷◌, Some, Ok, Err, Option, Result}
 use Rattle.digit_map.specs.declared.fault.Fault.{Fault}
 use Rattle.digit_map.specs.declared.map.Map.{Map}
 use Rattle.digit_map.specs.Derives.{ReadExactly}

@@ -6,5 +6,5 @@ pub returns : goal.returns
 returns g c =
     line_told (g.P.Plan.rest c.args.plan.now) c.args.symbol c.args.opens
     c.args.taken _ _ _ _
-    c.standing-of-standing.ensures c.in-ok-names.ensures c.as-str.ensures.value
-    c.key-told.ensures
+    c.standing_of-standing.ensures c.in_ok-names.ensures c.as_str.ensures.value
+    c.key_told.ensures

@@ -12,17 +12,17 @@ loop-symbol-preserved g c =
     let row = c.args.row.now in
     let at = c.loop-symbol.symbol-index in
     let out = string_bytes c.loop-symbol.out in
-    let line = string_bytes c.in-ok-line.line in
+    let line = string_bytes c.in_ok-line.line in
     let before : Entries = g.P.Plan.rest c.loop-symbol.plan in
-    let after : Entries = g.P.Plan.rest c.tell-key.new.plan in
-    let grown : string_bytes c.push-str.new.self ≡ out ++ line =
-    cc (c.in-ok-push-str.ensures.bytes, c.as-str.ensures.value) in (
-      same_trans (g.P.Plan.whole c.tell-key.new.plan) (g.P.Plan.whole c.loop-symbol.plan)
-          (g.P.Plan.whole c.rewind.new.self) c.tell-key.ensures.whole c.loop-symbol.invariant.0,
+    let after : Entries = g.P.Plan.rest c.tell_key.new.plan in
+    let grown : string_bytes c.push_str.new.self ≡ out ++ line =
+    cc (c.in_ok-push_str.ensures.bytes, c.as_str.ensures.value) in (
+      same_trans (g.P.Plan.whole c.tell_key.new.plan) (g.P.Plan.whole c.loop-symbol.plan)
+          (g.P.Plan.whole c.rewind.new.self) c.tell_key.ensures.whole c.loop-symbol.invariant.0,
       row_more (g.P.Plan.rest c.rewind.new.self) row before after out
-          (string_bytes c.push-str.new.self) line (drop at row) (drop (at + 1) row) _
+          (string_bytes c.push_str.new.self) line (drop at row) (drop (at + 1) row) _
           c.loop-symbol.invariant.1
-          (drop_more row at _ c.loop-symbol-test.true) c.in-ok-line.ensures.told grown,
+          (drop_more row at _ c.loop-symbol-test.true) c.in_ok-line.ensures.told grown,
     )
 
 pub returns : goal.returns

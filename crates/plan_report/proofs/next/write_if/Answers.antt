@@ -1,5 +1,5 @@
 -- The blank and then the symbol, or nothing. Assumes nothing.
-use Rattle.std.proofs.Common.{◌≡◌, ℕ, List, [], ◌∷◌, string_bytes, sym, ap, ◌∙◌, append_assoc, lit<}
+use Rattle.std.proofs.Common.{ℕ, List, [], ◌∷◌, string_bytes, ap, append_assoc, lit<}
 use Rattle.std.proofs.lemmas.List.{append-nil}
 use Rattle.plan_report.specs.Listings.{named_if}
 use Rattle.plan_report.specs.Words.{named}
@@ -12,9 +12,9 @@ returns-then-wanted c ok =
     let wanted = ap (named_if c.args.symbol) c.if-wanted.true in
     cc (
       wanted,
-      c.write-symbol.ensures ok,
-      c.in-ok-push.ensures.bytes,
-      c.in-ok-push.ensures.ascii (lit< tt),
+      c.write_symbol.ensures ok,
+      c.in_ok-push.ensures.bytes,
+      c.in_ok-push.ensures.ascii (lit< tt),
       append_assoc out (32 ∷ []) name,
     )
 

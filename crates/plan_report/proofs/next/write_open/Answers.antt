@@ -14,7 +14,7 @@ loop-symbol-preserved g c =
     upto_more (g.P.Plan.rest c.args.plan.now) listed (string_bytes c.args.out.now)
     (string_bytes c.loop-symbol.out) _ (drop at listed) _ _ _ c.loop-symbol.invariant
     (drop_more listed at _ c.loop-symbol-test.true) c.open-opens.ensures
-    (c.in-ok-write-if.ensures (refl {a = true}))
+    (c.in_ok-write_if.ensures (refl {a = true}))
 
 pub returns : goal.returns
 returns g c ok =

@@ -7,9 +7,9 @@ pub returns : goal.returns
 unfolding key_line
 returns c =
     simp (
-      sym c.in-ok-pressed.ensures,
-      sym c.in-ok-stands.ensures,
-      sym c.is-empty.ensures,
+      sym c.in_ok-pressed.ensures,
+      sym c.in_ok-stands.ensures,
+      sym c.is_empty.ensures,
       sym c.either-lead.ensures,
     )
     c.format.ensures.ok

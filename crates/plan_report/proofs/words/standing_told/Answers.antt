@@ -10,6 +10,6 @@ returns c =
       sym c.either-ended.ensures,
       sym c.either-settled.ensures,
       sym c.either-going.ensures,
-      sym c.mark-name-mark.ensures,
+      sym c.mark_name-mark.ensures,
     )
     c.format.ensures.ok

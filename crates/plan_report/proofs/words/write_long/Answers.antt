@@ -11,7 +11,7 @@ returns c ok =
       whole,
       key,
       c.key_letter.ensures.value,
-      c.in-ok-push.ensures.bytes,
-      c.in-ok-push.ensures.ascii (lit< tt),
+      c.in_ok-push.ensures.bytes,
+      c.in_ok-push.ensures.ascii (lit< tt),
       append_assoc out (90 ∷ []) (c.key_letter.result ∷ []),
     )

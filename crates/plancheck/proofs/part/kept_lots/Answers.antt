@@ -8,7 +8,7 @@ use Rattle.plancheck.proofs.part.kept_lots.Goals as goal
 pub returns-in-Ok : goal.returns-in-Ok
 returns-in-Ok c =
     let kept = c.args.kept.now in
-    let copied : vec_items c.in-ok-lots.lots ≡ vec_items kept.lots =
-    c.in-ok-lots.ensures.items ∙ c.as-slice.ensures.value in
+    let copied : vec_items c.in_ok-lots.lots ≡ vec_items kept.lots =
+    c.in_ok-lots.ensures.items ∙ c.as_slice.ensures.value in
     subst (λ (ns : List ℕ). Same (lot_whole c.in-Ok.plan) (listed ns kept.width)) copied
     c.in-Ok.ensures.admits

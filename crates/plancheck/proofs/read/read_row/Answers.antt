@@ -22,7 +22,7 @@ loop-letter-preserved c =
     let key = c.in-Some.key in
     let long = c.loop-letter.long in
     let grown : vec_items c.push.new.self ≡ row ++ keyed key long ∷ [] =
-    c.in-ok-push.ensures.items ∙ ap (λ (s : Symbol). row ++ s ∷ []) c.symbol_of.ensures in
+    c.in_ok-push.ensures.items ∙ ap (λ (s : Symbol). row ++ s ∷ []) c.symbol_of.ensures in
     let text = c.args.text.now in
     let at = c.loop-letter.letter-index in
     subst (λ (ss : List Symbol). take (at + 1) text ≡ spelled ss ++ []) (sym grown)

@@ -11,4 +11,4 @@ returns-in-Ok g c =
     let made : Entries = Behind (take plan.count plan.keys) (g.P.Plan.whole plan.part) in
     let asked : Entries = Behind c.args.code.now (g.P.Plan.whole c.args.part) in
     row_same made asked c.args.row.now _ c.in-Ok.ensures.whole
-    c.in-ok-told.ensures.told
+    c.in_ok-told-in-Ok.ensures.told

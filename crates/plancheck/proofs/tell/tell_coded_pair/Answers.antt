@@ -7,8 +7,8 @@ use Rattle.plans.specs.Pairs.{Either}
 use Rattle.plans.specs.Behind.{behind_same}
 use Rattle.plancheck.proofs.tell.tell_coded_pair.Goals as goal
 
-pub returns-in-ok-told : goal.returns-in-ok-told
-returns-in-ok-told g c =
+pub returns-in_ok-told-in-Ok : goal.returns-in_ok-told-in-Ok
+returns-in_ok-told-in-Ok g c =
     let code = c.args.code.now in
     let pair = c.new.result in
     let plan = c.in-Ok.coded in
@@ -18,4 +18,4 @@ returns-in-ok-told g c =
     (Either (g.P.Plan.whole plan.part.first) (g.Q.Plan.whole plan.part.second)) in
     let same = same_trans made (Behind code paired) (Behind code parts) c.in-Ok.ensures.whole
     (behind_same code paired parts c.new.ensures.whole) in
-    row_same made (Behind code parts) c.args.row.now _ same c.in-ok-told.ensures.told
+    row_same made (Behind code parts) c.args.row.now _ same c.in_ok-told-in-Ok.ensures.told

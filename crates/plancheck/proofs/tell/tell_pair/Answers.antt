@@ -10,4 +10,4 @@ returns g c =
     let made : Entries = Either (g.P.Plan.whole plan.first) (g.Q.Plan.whole plan.second) in
     let parts : Entries = Either (g.P.Plan.whole c.args.first) (g.Q.Plan.whole c.args.second) in
     row_same made parts c.args.row.now _ c.new-plan.ensures.whole
-    c.in-ok-told.ensures.told
+    c.in_ok-told.ensures.told

@@ -7,8 +7,8 @@ use Rattle.plans.specs.Pairs.{Either}
 use Rattle.plans.proofs.Pairs.{either_same}
 use Rattle.plancheck.proofs.tell.tell_pair_coded.Goals as goal
 
-pub returns-in-ok-told : goal.returns-in-ok-told
-returns-in-ok-told g c =
+pub returns-in_ok-told-in-Ok : goal.returns-in_ok-told-in-Ok
+returns-in_ok-told-in-Ok g c =
     let second = c.in-Ok.second in
     let plan = c.new-plan.result in
     let first : Entries = g.P.Plan.whole c.args.first in
@@ -18,4 +18,4 @@ returns-in-ok-told g c =
     (Behind (take plan.second.count plan.second.keys) (g.Q.Plan.whole plan.second.part)) in
     let same = same_trans made (Either first coded) (Either first asked) c.new-plan.ensures.whole
     (either_same first coded first asked (same_refl first) c.in-Ok.ensures.whole) in
-    row_same made (Either first asked) c.args.row.now _ same c.in-ok-told.ensures.told
+    row_same made (Either first asked) c.args.row.now _ same c.in_ok-told-in-Ok.ensures.told
