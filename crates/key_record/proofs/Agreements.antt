@@ -3,7 +3,6 @@ use Rattle.std.proofs.Common.{◌≡◌, ℕ, List, map, sym, ap, ◌∙◌, sub
 use Rattle.keypad.specs.Entries.{Entries}
 use Rattle.keypad.specs.Sets.{Same}
 use Rattle.keypad.proofs.Sames.{same_refl}
-use Rattle.key_record.specs.declared.answer.Reply.{Reply}
 use Rattle.key_record.specs.declared.call.Call.{Call}
 use Rattle.key_record.specs.Agreement.{Shown, shown, reported, Recorded, Agreement}
 use Rattle.key_record.specs.Record.{Kept, Runs, start}

@@ -1,5 +1,5 @@
 -- What each effect comes from: the call and the phase behind it. Assumes nothing.
-use Rattle.std.proofs.Common.{◌≡◌, ℕ, ◌⊎◌, List, [], ◌∷◌, Some, None, Option, sym, refl, subst, inl, inr, arith}
+use Rattle.std.proofs.Common.{◌≡◌, ℕ, ◌⊎◌, [], ◌∷◌, Some, sym, refl, subst, inl, inr, arith}
 use Rattle.keypad.specs.declared.key.KeyEvent.{KeyEvent}
 use Rattle.keypad.specs.Entries.{Entries}
 use Rattle.key_record.specs.declared.call.Call.{Call}
@@ -9,7 +9,6 @@ use Rattle.key_record.specs.declared.ending.Ending.{Ending}
 use Rattle.key_record.specs.declared.ending.Method.{Method}
 use Rattle.key_record.specs.declared.ending.Phase.TheVariants.{Idle, Open, Done, Claimed}
 use Rattle.key_record.specs.declared.refusal.Refusal.{Refusal}
-use Rattle.key_record.specs.declared.settings.Settings.{Settings}
 use Rattle.key_record.specs.declared.timer.Timer.{Timer}
 use Rattle.key_record.specs.Keying.{Falls}
 use Rattle.key_record.specs.Turns.{Outcome, Fed}

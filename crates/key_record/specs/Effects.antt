@@ -11,7 +11,7 @@ use Rattle.key_record.specs.declared.ending.Phase.TheVariants as phase
 use Rattle.key_record.specs.declared.refusal.Refusal.{Refusal}
 use Rattle.key_record.specs.declared.settings.Settings.{Settings}
 use Rattle.key_record.specs.declared.timer.Timer.{Timer}
-use Rattle.key_record.specs.Turns.{Over, Outcome, still, over}
+use Rattle.key_record.specs.Turns.{Outcome, still, over}
 use Rattle.key_record.specs.States.{State, with_phase, with_ahead, armed, lands, Running}
 
 -- it is refused; a key joins those ahead; an arming begins an entry, which comes to an outcome; a key or an

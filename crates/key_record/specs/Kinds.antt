@@ -6,7 +6,6 @@ use Rattle.key_record.specs.declared.answer.Answer.TheVariants.{Moved, Claimed, 
 use Rattle.key_record.specs.declared.answer.Reply.{Reply}
 use Rattle.key_record.specs.declared.call.Call.{Call}
 use Rattle.key_record.specs.declared.call.Call.TheVariants.{Arm, Key, Expire, Claim, Book, Waive}
-use Rattle.key_record.specs.declared.call.Numbers.{Numbers}
 use Rattle.key_record.specs.declared.settings.Settings.{Settings}
 
 abbrev pub key_of : Call → List KeyEvent

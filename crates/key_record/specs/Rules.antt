@@ -1,5 +1,5 @@
 -- Which effect a call has: one rule to a call, its refusals in the order of trying. Assumes nothing.
-use Rattle.std.specs.Prelude.{◌≡◌, ℕ, ◌+◌, ◌<◌, ◌≤◌, List, [], ◌∷◌, length, Some, None, Option}
+use Rattle.std.specs.Prelude.{◌≡◌, ℕ, ◌+◌, ◌<◌, ◌≤◌, [], ◌∷◌, length, Some, None}
 use Rattle.keypad.specs.declared.key.KeyEvent.{KeyEvent}
 use Rattle.keypad.specs.declared.key.Symbol.{Symbol}
 use Rattle.keypad.specs.Entries.{Entries}
@@ -17,7 +17,7 @@ use Rattle.key_record.specs.declared.timer.Timer.{Timer}
 use Rattle.key_record.specs.Bounds.{Lawful}
 use Rattle.key_record.specs.Dials.{width, chars}
 use Rattle.key_record.specs.Keying.{is_long, Chosen, Falls}
-use Rattle.key_record.specs.Turns.{Over, Outcome, over, Fed}
+use Rattle.key_record.specs.Turns.{Outcome, over, Fed}
 use Rattle.key_record.specs.Letters.{report_line}
 use Rattle.key_record.specs.States.{State, Whether, Running}
 use Rattle.key_record.specs.Effects.{Effect, refuses, queues, begins, presses, claims, settles}

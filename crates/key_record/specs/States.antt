@@ -13,7 +13,7 @@ use Rattle.key_record.specs.declared.settings.Settings.{Settings}
 use Rattle.key_record.specs.declared.timer.Timer.{Timer}
 use Rattle.key_record.specs.Dials.{fresh}
 use Rattle.key_record.specs.Keying.{Awaits}
-use Rattle.key_record.specs.Turns.{Over, Outcome, still, over}
+use Rattle.key_record.specs.Turns.{Outcome, still, over}
 
 -- the line's number, where it stands, what it was armed with last, the symbols pressed since, the keys ahead,
 -- the oldest first, and its count of reports
