@@ -19,7 +19,7 @@ loop-symbol-preserved c =
     let y = get_or d i (Plain 0) in
     let next = take_more d i (Plain 0) c.loop-symbol-test.true in
     let more = ap dial_text next ∙ dial_text_push (take i d) y in
-    added-++ t (dial_text (take i d)) (symbol_text y) c.loop-symbol.invariant c.add-symbol.ensures
+    added-++ t (dial_text (take i d)) (symbol_text y) c.loop-symbol.invariant c.add_symbol.ensures
     ∙ ap (λ l. cut (t ++ l)) (sym more)
 
 pub returns : goal.returns

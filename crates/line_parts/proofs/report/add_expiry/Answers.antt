@@ -13,7 +13,7 @@ no_expiry Press never = refl
 no_expiry (Extra y) never = refl
 no_expiry (Expiry x) never = absurd (never x refl)
 
-pub returns-in-default : goal.returns-in-default
-returns-in-default c =
+pub returns-in_default : goal.returns-in_default
+returns-in_default c =
     let t = c.args.text.now in
-    added_nil t ∙ ap (λ l. cut (text_of t ++ l)) (sym (no_expiry c.args.trigger c.in-default.not-Expiry))
+    added_nil t ∙ ap (λ l. cut (text_of t ++ l)) (sym (no_expiry c.args.trigger c.in_default.not-Expiry))

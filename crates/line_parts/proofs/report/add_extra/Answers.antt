@@ -17,10 +17,10 @@ pub returns-in-Extra : goal.returns-in-Extra
 returns-in-Extra c =
     let t = text_of c.args.text.now in
     let y = c.in-Extra.symbol in
-    added-++ t (codes ",extra=") (symbol_text y) c.push-all.ensures c.add-symbol.ensures
+    added-++ t (codes ",extra=") (symbol_text y) c.push_all.ensures c.add_symbol.ensures
     ∙ ap (λ x. cut (t ++ extra_text x)) (sym c.in-Extra.is)
 
-pub returns-in-default : goal.returns-in-default
-returns-in-default c =
+pub returns-in_default : goal.returns-in_default
+returns-in_default c =
     let t = c.args.text.now in
-    added_nil t ∙ ap (λ l. cut (text_of t ++ l)) (sym (no_extra c.args.trigger c.in-default.not-Extra))
+    added_nil t ∙ ap (λ l. cut (text_of t ++ l)) (sym (no_extra c.args.trigger c.in_default.not-Extra))

@@ -8,7 +8,7 @@ use Rattle.line_parts.proofs.report.add_symbol.Goals as goal
 pub returns-in-Long : goal.returns-in-Long
 returns-in-Long c =
     let t = text_of c.args.text.now in
-    let k = c.key-letter-in-Long.result in
+    let k = c.key_letter-in-Long.result in
     added-++ t (90 ∷ []) (k ∷ []) c.push-in-Long.ensures c.push-in-Long-2.ensures
-    ∙ (ap (λ n. cut (t ++ 90 ∷ n ∷ [])) c.key-letter-in-Long.ensures
+    ∙ (ap (λ n. cut (t ++ 90 ∷ n ∷ [])) c.key_letter-in-Long.ensures
     ∙ ap (λ y. cut (t ++ symbol_text y)) (sym c.in-Long.is))

@@ -11,6 +11,6 @@ returns c =
     let off = c.min-off.result in
     let n = length-take-le q.count q.events (omega arith) in
     let e : off ≡ min c.args.most (length (queued q)) = omega arith in
-    ap (λ l. take (q.count - off) l) c.rotate-left.ensures.after
+    ap (λ l. take (q.count - off) l) c.rotate_left.ensures.after
     ∙ (take_rotated off q.count q.events (omega arith) (omega arith)
     ∙ (ap (λ i. drop i (queued q)) e ∙ drop_least c.args.most (queued q)))

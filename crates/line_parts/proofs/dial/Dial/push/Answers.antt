@@ -7,14 +7,19 @@ use Rattle.key_record.proofs.Dials.{width_bounds, chars_push}
 use Rattle.line_parts.specs.Dialled.{dialled}
 use Rattle.line_parts.proofs.dial.Dial.push.Goals as goal
 
-pub invariant-of-self : goal.invariant-of-self
-invariant-of-self c =
+pub invariant_of-self : goal.invariant_of-self
+invariant_of-self c =
     let d = c.args.self.now in
     let y = c.args.symbol in
     let w = width_bounds y in
     let fits = true-leb _ _ c.if-takes.ensures in
     let e = ap chars (take_more_set d.symbols d.count y (omega arith)) ∙ chars_push (dialled d) y in
-    (length-set d.symbols d.count y ∙ d.full, (omega arith, (omega arith, (omega arith, tt))))
+    record {
+      full = length-set d.symbols d.count y ∙ d.full;
+      counted = omega arith;
+      within = omega arith;
+      short = omega arith;
+    }
 
 pub returns-then-takes : goal.returns-then-takes
 returns-then-takes c =

@@ -12,17 +12,17 @@ pub returns : goal.returns
 returns c =
     let d = dialled c.args.self.now.dial in
     let e = c.args.self.now.ending in
-    let labelled = text_of c.push-all-2.new.self in
-    let method = c.push-all-3.ensures ∙ ap (λ m. cut (labelled ++ m)) c.method-letters.ensures in
+    let labelled = text_of c.push_all-2.new.self in
+    let method = c.push_all-3.ensures ∙ ap (λ m. cut (labelled ++ m)) c.method_letters.ensures in
     let extra : List ℕ = extra_text e.trigger ++ 10 ∷ [] in
     let behind : List ℕ = method_text e.method ++ extra in
     let label : List ℕ = codes ",meth=" ++ behind in
     let expiry : List ℕ = expiry_text e.trigger ++ label in
-    added-++ _ (codes "ds=") (dial_text d ++ expiry) c.push-all.ensures
-    (added-++ _ (dial_text d) expiry c.add-dial.ensures
-    (added-++ _ (expiry_text e.trigger) label c.add-expiry.ensures
-    (added-++ _ (codes ",meth=") behind c.push-all-2.ensures
+    added-++ _ (codes "ds=") (dial_text d ++ expiry) c.push_all.ensures
+    (added-++ _ (dial_text d) expiry c.add_dial.ensures
+    (added-++ _ (expiry_text e.trigger) label c.add_expiry.ensures
+    (added-++ _ (codes ",meth=") behind c.push_all-2.ensures
     (added-++ _ (method_text e.method) extra method
-    (added-++ _ (extra_text e.trigger) (10 ∷ []) c.add-extra.ensures c.push.ensures)))))
+    (added-++ _ (extra_text e.trigger) (10 ∷ []) c.add_extra.ensures c.push.ensures)))))
     ∙ (ap (λ t. cut (t ++ report_line d e)) c.new-text.ensures
     ∙ take_all 85 (report_line d e) (report_length d e (omega arith)))
