@@ -14,7 +14,7 @@ use Rattle.key_record.specs.declared.timer.Timer.{Timer}
 use Rattle.key_record.specs.Bounds.{Lawful}
 use Rattle.key_record.specs.Effects.{begins, pressed_by, Progresses}
 use Rattle.key_record.specs.States.{State, with_phase, with_ahead, armed, kept_extra, lands, Running}
-use Rattle.key_record.specs.Turns.{pressed, Outcome, still, over, Fed}
+use Rattle.key_record.specs.Turns.{Outcome, still, over, Fed}
 use Rattle.key_record.proofs.Moves.{fed_same}
 use Rattle.line_parts.specs.Queued.{queued}
 use Rattle.line.specs.declared.line.Line.{Line}

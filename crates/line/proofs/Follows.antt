@@ -5,7 +5,7 @@ use Rattle.keypad.specs.Sets.{Same, Remains}
 use Rattle.keypad.proofs.Sames.{same_trans, remains_same, remains-++}
 use Rattle.key_record.specs.declared.answer.Answer.{Answer}
 use Rattle.key_record.specs.declared.call.Call.{Call}
-use Rattle.key_record.specs.declared.ending.Phase.TheVariants.{Idle, Open, Done, Claimed}
+use Rattle.key_record.specs.declared.ending.Phase.TheVariants.{Open}
 use Rattle.key_record.specs.declared.timer.Timer.{Timer}
 use Rattle.key_record.specs.Turns.{still, over}
 use Rattle.key_record.specs.States.{State, Running}

@@ -1,6 +1,5 @@
 -- A timer of an open line. Assumes nothing.
-use Rattle.std.proofs.Common.{◌≡◌, ℕ, Bool, true, false, cond, not, Some, None, sym, refl, ap, ◌∙◌, subst, inl, inr, append-nil, arith}
-use Rattle.std.proofs.lemmas.Bool.{true≢false, false≢true}
+use Rattle.std.proofs.Common.{◌≡◌, ℕ, Some, None, sym, refl, ap, ◌∙◌, subst, inl, inr, append-nil, arith}
 use Rattle.keypad.specs.Entries.{Entries}
 use Rattle.key_record.specs.declared.answer.Answer.TheVariants.{Moved, Refused}
 use Rattle.key_record.specs.declared.answer.Progress.TheVariants.{Done}
@@ -20,15 +19,6 @@ use Rattle.line.specs.Processed.{finished}
 use Rattle.line.proofs.Pressing.{same_at, does_press}
 use Rattle.line.proofs.Processing.{with_dial}
 use Rattle.line.proofs.Refusing.{refusing}
-
--- what the test for another timer told
-pub told_other : {P : Type 0} → (x : Bool) × cond x P (P → ⊥) × (true ≡ not x) → P → ⊥
-told_other (true, h, e) p = true≢false e
-told_other (false, h, e) p = h p
-
-pub told_same : {P : Type 0} → (x : Bool) × cond x P (P → ⊥) × (false ≡ not x) → P
-told_same (true, h, e) = h
-told_same (false, h, e) = absurd (false≢true e)
 
 module _ {X : Type 0} (whole rest : X → Entries) (l : Line X) (t : Timer) where
   -- none runs

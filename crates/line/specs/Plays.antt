@@ -1,5 +1,5 @@
 -- A list of calls played on a line. Assumes nothing.
-use Rattle.std.specs.Prelude.{◌≡◌, ℕ, ◌+◌, ◌≤◌, List, [], ◌∷◌, ◌++◌, map, Some, None, vec_items, vec_len, vec_capacity, Option}
+use Rattle.std.specs.Prelude.{◌≡◌, ℕ, ◌+◌, ◌≤◌, List, [], ◌∷◌, ◌++◌, map, vec_items, vec_len, vec_capacity}
 use Rattle.keypad.specs.Entries.{Entries}
 use Rattle.key_record.specs.declared.answer.Answer.{Answer}
 use Rattle.key_record.specs.declared.answer.Reply.{Reply}
@@ -11,7 +11,6 @@ use Rattle.key_record.specs.States.{State, Running}
 use Rattle.key_record.specs.Turns.{Outcome, still, over}
 use Rattle.line_parts.specs.declared.report.Report.{Report}
 use Rattle.line_parts.specs.Dialled.{dialled}
-use Rattle.line.specs.declared.play.Log.{Log}
 use Rattle.line.specs.declared.play.Played.{Played}
 use Rattle.line.specs.Does.{Does}
 use Rattle.line.specs.Lines.{state_of}

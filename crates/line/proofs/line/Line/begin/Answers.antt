@@ -17,16 +17,19 @@ pub process-requires : goal.process-requires
 process-requires g c =
     feeding_fits g.P.Plan.whole g.P.Plan.rest _ _ _ c.loop-event.invariant _ c.in-Some.ensures
 
-pub overflow-add-fed : goal.overflow-add-fed
-overflow-add-fed g c =
+pub overflow_add-fed : goal.overflow_add-fed
+overflow_add-fed g c =
     let h = ahead_within c.loop-event.self.ahead c.loop-event.fed _ c.in-Some.ensures in
     omega arith
 
-pub invariant-of-self-in-Some-process : goal.invariant-of-self-in-Some-process
-invariant-of-self-in-Some-process g c =
+pub invariant_of-self-in-Some-process : goal.invariant_of-self-in-Some-process
+invariant_of-self-in-Some-process g c =
     let n = c.process.new.self in
     let off = c.if-kept.discard in
-    (n.few, (length_dropped off _ (queued n.ahead) _ c.discard.ensures n.clear, tt))
+    record {
+      few = n.few;
+      clear = length_dropped off _ (queued n.ahead) _ c.discard.ensures n.clear;
+    }
 
 pub finish-requires : goal.finish-requires
 finish-requires g c =
@@ -49,8 +52,8 @@ returns-in-Some-process g c =
     ]) c.finish.ensures.plan
     (c.finish.ensures.state ∙ ap (λ q. finished (with_ahead (state_of n) q) e) c.discard.ensures)
 
-pub overflow-add-fed-in-Some : goal.overflow-add-fed-in-Some
-overflow-add-fed-in-Some g c =
+pub overflow_add-fed-in-Some : goal.overflow_add-fed-in-Some
+overflow_add-fed-in-Some g c =
     let h = ahead_within c.loop-event.self.ahead c.loop-event.fed _ c.in-Some.ensures in
     omega arith
 
@@ -63,19 +66,19 @@ loop-event-smaller g c =
 pub loop-event-preserved : goal.loop-event-preserved
 loop-event-preserved g c =
     feeding_more g.P.Plan.whole g.P.Plan.rest _ _ _ c.loop-event.invariant _ c.in-Some.ensures _
-    c.in-default-process.ensures
+    c.in_default-process.ensures
 
-pub invariant-of-self-2 : goal.invariant-of-self-2
-invariant-of-self-2 g c =
+pub invariant_of-self-2 : goal.invariant_of-self-2
+invariant_of-self-2 g c =
     let m = ap (λ st. st.count) c.loop-event.invariant.state in
     let few = c.requires.few in
     let e = ap length c.new-self-2.ensures in
-    (omega arith, (omega arith, tt))
+    record { few = omega arith; clear = omega arith }
 
 pub returns : goal.returns
 returns g c =
     let m = c.loop-event.self in
     arming_opens g.P.Plan.whole g.P.Plan.rest c.args.self.now _ c.requires.phase c.requires.lawful
     c.requires.few refl c.rewind.ensures.whole c.rewind.ensures.rest m _ c.loop-event.invariant _
-    c.timer.result c.in-default.ensures refl
+    c.timer.result c.in_default.ensures refl
     (ap (λ q. with_phase (with_ahead (state_of m) q) Open) c.new-self-2.ensures) c.timer.ensures

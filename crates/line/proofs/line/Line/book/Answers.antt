@@ -4,10 +4,10 @@ use Rattle.line_parts.specs.Texts.{text_of}
 use Rattle.line.proofs.Settling.{booked, book_refused, book_short}
 use Rattle.line.proofs.line.Line.book.Goals as goal
 
-pub returns-in-default : goal.returns-in-default
-returns-in-default g c =
+pub returns-in_default : goal.returns-in_default
+returns-in_default g c =
     book_refused g.P.Plan.whole g.P.Plan.rest c.args.self.now c.args.receipt
-    c.numbers.result c.numbers.ensures c.args.memory.now c.in-default.ensures
+    c.numbers.result c.numbers.ensures c.args.memory.now c.in_default.ensures
 
 pub returns-then-not-lay : goal.returns-then-not-lay
 returns-then-not-lay g c =

@@ -11,7 +11,7 @@ returns-in-Done g c =
     claiming g.P.Plan.whole g.P.Plan.rest c.args.self.now _ refl
     c.in-Done.ending c.with.result c.in-Done.is c.with.ensures refl
 
-pub returns-in-default : goal.returns-in-default
-returns-in-default g c =
+pub returns-in_default : goal.returns-in_default
+returns-in_default g c =
     refusing g.P.Plan.whole g.P.Plan.rest c.args.self.now Claim NotDone
-    (inr (λ h. c.in-default.not-Done h.0 h.1, refl))
+    (inr (λ h. c.in_default.not-Done h.0 h.1, refl))

@@ -17,19 +17,19 @@ returns-then-overflows g c =
     refusing g.P.Plan.whole g.P.Plan.rest c.args.self.now (call.Key c.args.event)
     refusal.Dial (inl (c.if-event-gt15.false, inl (c.requires, inr (past, refl))))
 
-pub returns-then-keeps-last : goal.returns-then-keeps-last
-returns-then-keeps-last g c =
+pub returns-then-keeps_last : goal.returns-then-keeps_last
+returns-then-keeps_last g c =
     press_kept g.P.Plan.whole g.P.Plan.rest c.args.self.now c.args.event c.requires
     c.if-event-gt15.false c.if-overflows.ensures c.process.new.self c.finish.new.self
     c.in-Some.ending c.in-Some.ensures c.finish.ensures.state c.finish.ensures.plan _
-    c.if-keeps-last.ensures refl refl c.push.ensures
+    c.if-keeps_last.ensures refl refl c.push.ensures
 
-pub returns-else-keeps-last : goal.returns-else-keeps-last
-returns-else-keeps-last g c =
+pub returns-else-keeps_last : goal.returns-else-keeps_last
+returns-else-keeps_last g c =
     press_lost g.P.Plan.whole g.P.Plan.rest c.args.self.now c.args.event c.requires
     c.if-event-gt15.false c.if-overflows.ensures c.process.new.self c.finish.new.self
     c.in-Some.ending c.in-Some.ensures c.finish.ensures.state c.finish.ensures.plan
-    c.if-keeps-last.ensures
+    c.if-keeps_last.ensures
 
 pub returns-in-None : goal.returns-in-None
 returns-in-None g c =

@@ -6,8 +6,8 @@ use Rattle.line.proofs.Booking.{booked_within, does_longer, called_booking}
 use Rattle.line.proofs.Calling.{called_quietly}
 use Rattle.line.proofs.play.Played.book.Goals as goal
 
-pub slice-bounds-extend-from-slice-end : goal.slice-bounds-extend-from-slice-end
-slice-bounds-extend-from-slice-end g c =
+pub slice_bounds-extend_from_slice-end : goal.slice_bounds-extend_from_slice-end
+slice_bounds-extend_from_slice-end g c =
     let b = c.in-Ok.ensures in
     let m = c.book.new.self in
     let h = booked_within (g.P.Plan.rest m.plan) (state_of m) b.does.effect c.in-Ok.written _
@@ -17,9 +17,9 @@ slice-bounds-extend-from-slice-end g c =
 pub returns-in-Ok : goal.returns-in-Ok
 returns-in-Ok g c =
     let b = c.in-Ok.ensures in
-    let more = c.extend-from-slice.ensures in
+    let more = c.extend_from_slice.ensures in
     called_booking g.P.Plan.whole g.P.Plan.rest c.args.self.now
-    c.extend-from-slice.new.self c.book.new.self c.args.numbers _ c.args.length
+    c.extend_from_slice.new.self c.book.new.self c.args.numbers _ c.args.length
     c.min-lent.result c.in-Ok.written _ c.book.new.memory _ _ b.does b.memory
     c.with.ensures refl c.min-lent.ensures c.book.auto.memory more.items more.succeeds
     c.requires more.capacity

@@ -16,8 +16,8 @@ returns g c =
     let other = played_shown c.run-other.result in
     record {
       agreement = agreement w v number cs ds one other
-          (subst (λ l. Recorded w number l one) c.as-slice.ensures.value c.run-one.ensures.recorded)
-          (subst (λ l. Recorded v number l other) c.as-slice-2.ensures.value
+          (subst (λ l. Recorded w number l one) c.as_slice.ensures.value c.run-one.ensures.recorded)
+          (subst (λ l. Recorded v number l other) c.as_slice-2.ensures.value
           c.run-other.ensures.recorded);
       first = c.run-one.ensures.whole;
       second = c.run-other.ensures.whole;
