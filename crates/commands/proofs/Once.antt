@@ -1,5 +1,5 @@
 -- Bytes write at most one command. Assumes nothing.
-use Rattle.std.proofs.Common.{◌≡◌, ℕ, ◌+◌, ◌/◌, ◌%◌, cond, eqb, List, sym, refl, ap, ◌∙◌, arith}
+use Rattle.std.proofs.Common.{◌≡◌, ℕ, cond, eqb, List, sym, refl, ap, ◌∙◌, arith}
 use Rattle.std.proofs.lemmas.Bool.Decides.{nat_tests}
 use Rattle.key_record.specs.declared.settings.Disposition.{Disposition}
 use Rattle.key_record.specs.declared.settings.Disposition.TheVariants.{Keep, Drop}

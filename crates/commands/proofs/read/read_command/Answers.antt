@@ -9,38 +9,38 @@ ruleset tested = (arith, ltb-true, ltb-false)
 
 pub returns-in-97 : goal.returns-in-97
 returns-in-97 c =
-    found_by_places c.args.bytes.now 2 97 _ (omega tested) (omega tested) c.read-arming.ensures
+    found_by_places c.args.bytes.now 2 97 _ (omega tested) (omega tested) c.read_arming.ensures
 
 pub returns-in-107 : goal.returns-in-107
 returns-in-107 c =
-    found_by_places c.args.bytes.now 1 107 _ (omega tested) (omega tested) c.read-tap.ensures
+    found_by_places c.args.bytes.now 1 107 _ (omega tested) (omega tested) c.read_tap.ensures
 
 pub returns-in-107-2 : goal.returns-in-107-2
 returns-in-107-2 c =
-    found_by_places c.args.bytes.now 3 107 _ (omega tested) (omega tested) c.read-hold.ensures
+    found_by_places c.args.bytes.now 3 107 _ (omega tested) (omega tested) c.read_hold.ensures
 
 pub returns-in-101 : goal.returns-in-101
 returns-in-101 c =
-    found_by_places c.args.bytes.now 1 101 _ (omega tested) (omega tested) c.read-expiry.ensures
+    found_by_places c.args.bytes.now 1 101 _ (omega tested) (omega tested) c.read_expiry.ensures
 
 pub returns-in-99 : goal.returns-in-99
 returns-in-99 c =
     found_by_places c.args.bytes.now 0 99 (Some Close) (omega tested) (omega tested) close
 
-pub returns-in-default : goal.returns-in-default
-returns-in-default c x w = omega (tested, shape w)
+pub returns-in_default : goal.returns-in_default
+returns-in_default c x w = omega (tested, shape w)
 
-pub returns-in-default·2 : goal.returns-in-default·2
-returns-in-default·2 c x w = omega (tested, shape w)
+pub returns-in_default-2 : goal.returns-in_default-2
+returns-in_default-2 c x w = omega (tested, shape w)
 
-pub returns-in-default·3 : goal.returns-in-default·3
-returns-in-default·3 c x w = omega (tested, shape w)
+pub returns-in_default-3 : goal.returns-in_default-3
+returns-in_default-3 c x w = omega (tested, shape w)
 
-pub returns-in-default·4 : goal.returns-in-default·4
-returns-in-default·4 c x w = omega (tested, shape w)
+pub returns-in_default-4 : goal.returns-in_default-4
+returns-in_default-4 c x w = omega (tested, shape w)
 
-pub returns-in-default·5 : goal.returns-in-default·5
-returns-in-default·5 c x w = omega (tested, shape w)
+pub returns-in_default-5 : goal.returns-in_default-5
+returns-in_default-5 c x w = omega (tested, shape w)
 
-pub returns-in-default·6 : goal.returns-in-default·6
-returns-in-default·6 c x w = omega (tested, shape w)
+pub returns-in_default-6 : goal.returns-in_default-6
+returns-in_default-6 c x w = omega (tested, shape w)

@@ -3,12 +3,12 @@ use Rattle.commands.specs.Written.Writes.{tap}
 use Rattle.commands.proofs.Written.{tap_parts}
 use Rattle.commands.proofs.read.read_tap.Goals as goal
 
-pub returns-in-err-key : goal.returns-in-err-key
-returns-in-err-key c =
-    let none = c.in-err-key.ensures in
-    rw c.from-residual.ensures (λ x w. none (tap_parts w).0 (tap_parts w).1)
+pub returns-in_err-key : goal.returns-in_err-key
+returns-in_err-key c =
+    let none = c.in_err-key.ensures in
+    rw c.from_residual.ensures (λ x w. none (tap_parts w).0 (tap_parts w).1)
 
 pub returns : goal.returns
 returns c =
-    let found = c.in-ok-key.ensures in
+    let found = c.in_ok-key.ensures in
     rw found.1 (tap _ found.0)

@@ -21,7 +21,7 @@ returns-else-number-lt10 t c =
     let digits = sym (decimal_step n (omega arith) (omega arith)) in
     let last = c.push-else-number-lt10.ensures in
     record {
-      after = added-++ before (decimal (n / 10)) ((48 + n % 10) ∷ []) c.add-number.ensures.after last
+      after = added-++ before (decimal (n / 10)) ((48 + n % 10) ∷ []) c.add_number.ensures.after last
           ∙ ap (λ l. cut (before ++ l)) digits;
       bound = length-decimal-le 20 n (omega arith) (omega arith) (omega arith);
     }

@@ -9,10 +9,10 @@ pub returns-in-Ahead : goal.returns-in-Ahead
 returns-in-Ahead c =
     let t = text_of c.args.text.now in
     let digits = decimal c.in-Ahead.count in
-    let word = c.push-all-in-Ahead.ensures in
-    let number = c.add-number.ensures.after in
+    let word = c.push_all-in-Ahead.ensures in
+    let number = c.add_number.ensures.after in
     record {
       after = added-++ t (codes "ahead ") digits word number
           ∙ ap (λ p. cut (t ++ progress_words p)) (sym c.in-Ahead.is);
-      bound = rw c.in-Ahead.is (omega (arith, c.add-number.ensures.bound));
+      bound = rw c.in-Ahead.is (omega (arith, c.add_number.ensures.bound));
     }

@@ -1,5 +1,5 @@
 -- The word, the timer's letter and its seconds, one behind another. Assumes nothing.
-use Rattle.std.proofs.Common.{◌≡◌, [], ◌∷◌, ◌++◌, length, codes, decimal, sym, ap, ◌∙◌, arith}
+use Rattle.std.proofs.Common.{◌≡◌, [], ◌∷◌, ◌++◌, length, codes, decimal, ap, ◌∙◌, arith}
 use Rattle.line_parts.specs.Texts.{text_of, cut}
 use Rattle.line_parts.proofs.Texts.{added-++}
 use Rattle.commands.specs.Told.{wait_words}
@@ -12,11 +12,11 @@ returns-in-Some c =
     let behind = 32 ∷ letter ∷ 32 ∷ decimal c.from.result in
     let words : codes "wait" ++ behind ≡ wait_words c.args.wait =
     rw (c.in-Some.is, c.timer_letter.ensures, c.from.ensures) in
-    let timer = c.push-all-in-Some.ensures in
-    let seconds = c.add-number.ensures.after in
+    let timer = c.push_all-in-Some.ensures in
+    let seconds = c.add_number.ensures.after in
     let counted = ap length words in
     record {
-      after = added-++ t (codes "wait") behind c.push-all.ensures
+      after = added-++ t (codes "wait") behind c.push_all.ensures
           (added-++ _ (32 ∷ letter ∷ 32 ∷ []) (decimal c.from.result) timer seconds)
           ∙ ap (λ l. cut (t ++ l)) words;
       bound = omega arith;
