@@ -6,6 +6,6 @@ use Rattle.play_report.proofs.tell.add_ahead.Goals as goal
 
 pub returns : goal.returns
 returns c ok =
-    joined-++ (vec_items c.args.out.now) (codes "ahead") _ c.in-ok-extend-from-slice.ensures.items
-    (joined-++ _ (told_all key_words c.args.events.now) (10 ∷ []) (c.in-ok-add-keys.ensures refl)
-    (simp ok at c.extend-from-slice-2.ensures.items))
+    joined-++ (vec_items c.args.out.now) (codes "ahead") _ c.in_ok-extend_from_slice.ensures.items
+    (joined-++ _ (told_all key_words c.args.events.now) (10 ∷ []) (c.in_ok-add_keys.ensures refl)
+    (simp ok at c.extend_from_slice-2.ensures.items))

@@ -9,7 +9,7 @@ loop-event-preserved c =
     let before = vec_items c.loop-event.out in
     upto_more key_words c.args.events.now (vec_items c.args.out.now) before _ c.loop-event.event-index _
     c.loop-event-test.true c.loop-event.invariant
-    (c.in-ok-add-text.ensures refl ∙ ap (λ (l : List ℕ). before ++ l) c.key-text.ensures)
+    (c.in_ok-add_text.ensures refl ∙ ap (λ (l : List ℕ). before ++ l) c.key_text.ensures)
 
 pub returns : goal.returns
 returns c ok =

@@ -1,5 +1,5 @@
 -- A turn tells one report more, and the last leaves none. Assumes nothing.
-use Rattle.std.proofs.Common.{◌≡◌, ℕ, List, ◌++◌, vec_items, sym, refl, ap, ◌∙◌}
+use Rattle.std.proofs.Common.{ℕ, List, ◌++◌, vec_items, sym, refl, ap, ◌∙◌}
 use Rattle.key_record.specs.Letters.{report_line}
 use Rattle.play_report.specs.Sides.{report_by}
 use Rattle.play_report.proofs.Told.{upto_more, upto_all, report_told, told_map}
@@ -11,7 +11,7 @@ loop-report-preserved c =
     let told = c.text.ensures ∙ ap report_told c.report-item.is in
     upto_more report_told c.args.reports.now (vec_items c.args.out.now) before _
     c.loop-report.report-index c.report-item.result c.loop-report-test.true c.loop-report.invariant
-    (c.in-ok-add-text.ensures refl ∙ ap (λ (l : List ℕ). before ++ l) told)
+    (c.in_ok-add_text.ensures refl ∙ ap (λ (l : List ℕ). before ++ l) told)
 
 pub returns : goal.returns
 returns c ok =

@@ -12,4 +12,4 @@ returns c ok =
     let bound : length text ≤ 85 = omega (arith, c.len.ensures.value, c.len.ensures.bound) in
     let front : take (c.len.result - 0) after ≡ text =
     ap (λ (k : ℕ). take k after) n ∙ laid_front text (replicate 85 0) after _ bound c.lay.ensures in
-    simp ok at c.extend-from-slice.ensures.items ∙ ap (λ (l : List ℕ). vec_items c.args.out.now ++ l) front
+    simp ok at c.extend_from_slice.ensures.items ∙ ap (λ (l : List ℕ). vec_items c.args.out.now ++ l) front

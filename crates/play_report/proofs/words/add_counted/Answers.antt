@@ -6,7 +6,7 @@ use Rattle.play_report.proofs.words.add_counted.Goals as goal
 
 pub returns : goal.returns
 returns c = record {
-  after = added-++ (text_of c.args.text.now) c.args.word.now (decimal c.args.number) c.push-all.ensures
-      c.add-number.ensures.after;
-  bound = c.add-number.ensures.bound;
+  after = added-++ (text_of c.args.text.now) c.args.word.now (decimal c.args.number) c.push_all.ensures
+      c.add_number.ensures.after;
+  bound = c.add_number.ensures.bound;
 }

@@ -1,5 +1,5 @@
 -- The timer's letter and its seconds. Assumes nothing.
-use Rattle.std.proofs.Common.{◌≡◌, [], ◌∷◌, ◌++◌, length, decimal, sym, ap, ◌∙◌, arith}
+use Rattle.std.proofs.Common.{◌≡◌, [], ◌∷◌, ◌++◌, length, decimal, ap, ◌∙◌, arith}
 use Rattle.line_parts.specs.Texts.{text_of, cut}
 use Rattle.line_parts.proofs.Texts.{added-++}
 use Rattle.play_report.specs.Words.{timer_words}
@@ -13,9 +13,9 @@ returns-in-Some c =
     let words : letter ∷ 32 ∷ seconds ≡ timer_words c.args.timer =
     rw (c.in-Some.is, c.timer_letter.ensures, c.from.ensures) in
     let counted = ap length words in
-    let bound = c.add-number.ensures.bound in
+    let bound = c.add_number.ensures.bound in
     record {
-      after = added-++ t (letter ∷ 32 ∷ []) seconds c.push-all.ensures c.add-number.ensures.after
+      after = added-++ t (letter ∷ 32 ∷ []) seconds c.push_all.ensures c.add_number.ensures.after
           ∙ ap (λ l. cut (t ++ l)) words;
       bound = omega arith;
     }

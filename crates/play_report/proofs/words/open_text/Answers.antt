@@ -1,5 +1,5 @@
 -- The parts of the line, which fit a text. Assumes nothing.
-use Rattle.std.proofs.Common.{◌≡◌, ℕ, cond, List, [], ◌∷◌, ◌++◌, codes, ap, ◌∙◌, arith}
+use Rattle.std.proofs.Common.{ℕ, cond, List, [], ◌∷◌, ◌++◌, codes, ap, ◌∙◌, arith}
 use Rattle.std.proofs.lemmas.List.{take_all}
 use Rattle.key_record.specs.Dials.{fresh}
 use Rattle.key_record.specs.Letters.{dial_text}
@@ -14,10 +14,10 @@ pub returns : goal.returns
 returns c =
     let d = dialled c.args.dial in
     let blank : List ℕ = cond (fresh d) [] (32 ∷ []) in
-    let led = c.lead.ensures ∙ ap (λ f. cond f [] (32 ∷ [])) c.is-fresh.ensures in
-    let word = text_of c.push-all.new.self in
-    added-++ _ (codes "entry") (blank ++ (dial_text d ++ 10 ∷ [])) c.push-all.ensures
-    (added-++ _ blank (dial_text d ++ 10 ∷ []) (c.push-all-2.ensures ∙ ap (λ l. cut (word ++ l)) led)
-    (added-++ _ (dial_text d) (10 ∷ []) c.add-dial.ensures c.push.ensures))
+    let led = c.lead.ensures ∙ ap (λ f. cond f [] (32 ∷ [])) c.is_fresh.ensures in
+    let word = text_of c.push_all.new.self in
+    added-++ _ (codes "entry") (blank ++ (dial_text d ++ 10 ∷ [])) c.push_all.ensures
+    (added-++ _ blank (dial_text d ++ 10 ∷ []) (c.push_all-2.ensures ∙ ap (λ l. cut (word ++ l)) led)
+    (added-++ _ (dial_text d) (10 ∷ []) c.add_dial.ensures c.push.ensures))
     ∙ (ap (λ t. cut (t ++ open_line d)) c.new-text.ensures
     ∙ take_all 85 (open_line d) (open_length d (omega arith)))
