@@ -4,7 +4,6 @@ use Rattle.keypad.specs.declared.key.KeyEvent.{KeyEvent}
 use Rattle.keypad.specs.declared.key.Symbol.{Symbol}
 use Rattle.keypad.specs.Entries.{Entries}
 use Rattle.keypad.specs.Sets.{Remains}
-use Rattle.key_record.specs.declared.call.Call.TheVariants as call
 use Rattle.key_record.specs.declared.ending.Phase.TheVariants.{Idle, Open}
 use Rattle.key_record.specs.declared.refusal.Refusal.{Refusal}
 use Rattle.key_record.specs.declared.refusal.Refusal.TheVariants as no
