@@ -1,5 +1,5 @@
 -- What closing a line prints: its report line. Assumes nothing.
-use Rattle.std.proofs.Common.{◌≡◌, ℕ, List, [], ◌∷◌, ◌++◌, length, Some, refl, ap, ◌∙◌, subst, inl, inr, append-nil, arith}
+use Rattle.std.proofs.Common.{◌≡◌, ℕ, List, [], ◌∷◌, ◌++◌, length, refl, ap, ◌∙◌, subst, inl, inr, append-nil, arith}
 use Rattle.keypad.specs.declared.timers.Timers.{Timers}
 use Rattle.keypad.specs.Entries.{Entries}
 use Rattle.key_record.specs.declared.answer.Answer.TheVariants as answer
@@ -7,7 +7,7 @@ use Rattle.key_record.specs.declared.call.Call.TheVariants.{Claim, Book}
 use Rattle.key_record.specs.declared.call.Numbers.{Numbers}
 use Rattle.key_record.specs.declared.ending.Ending.{Ending}
 use Rattle.key_record.specs.declared.ending.Phase.TheVariants.{Done, Claimed}
-use Rattle.key_record.specs.Effects.{Effect, claims, settles, after, Replies}
+use Rattle.key_record.specs.Effects.{Effect, claims, after, Replies}
 use Rattle.key_record.specs.Letters.{report_line}
 use Rattle.key_record.specs.Rules.{Claiming, Booking}
 use Rattle.key_record.specs.States.{State, with_phase}
@@ -16,7 +16,6 @@ use Rattle.commands.specs.declared.command.Command.TheVariants.{Close}
 use Rattle.line_parts.specs.Dialled.{dialled}
 use Rattle.line.specs.declared.line.Line.{Line}
 use Rattle.line.specs.Closing.{Closed}
-use Rattle.line.specs.Does.{Does}
 use Rattle.line.specs.Lines.{state_of}
 use Rattle.line.specs.Written.{written}
 use Rattle.sale.specs.Commands.{calls_of}

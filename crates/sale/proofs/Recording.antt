@@ -9,7 +9,6 @@ use Rattle.key_record.specs.Effects.{Effect, refuses, queues, begins, presses, c
 use Rattle.key_record.specs.Record.{Kept, note}
 use Rattle.key_record.specs.Turns.{still, over}
 use Rattle.line.specs.declared.line.Line.{Line}
-use Rattle.line.specs.Lines.{state_of}
 use Rattle.line.specs.Written.{written}
 use Rattle.line.proofs.Follows.{Follows, allowed_on, answered_on, follows_on}
 use Rattle.sale.specs.Commands.{calls_of, last_line}

@@ -1,9 +1,6 @@
 -- A command that is given to a line. Assumes nothing.
-use Rattle.std.proofs.Common.{length, ap}
 use Rattle.key_record.specs.declared.call.Call.TheVariants.{Arm, Key, Expire}
-use Rattle.line.specs.Lines.{state_of}
 use Rattle.line_parts.specs.Texts.{text_of}
-use Rattle.sale.specs.Commands.{calls_of}
 use Rattle.sale.proofs.Giving.{moved_given, closed_given, declined_given}
 use Rattle.sale.proofs.command.give.Goals as goal
 

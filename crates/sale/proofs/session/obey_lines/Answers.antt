@@ -1,5 +1,5 @@
 -- A turn obeys the first command of the rest, and none is left at the end. Assumes nothing.
-use Rattle.std.proofs.Common.{◌≡◌, ℕ, List, [], ◌++◌, length, vec_items, sym, refl, subst, append-nil, arith}
+use Rattle.std.proofs.Common.{◌≡◌, ℕ, List, [], ◌++◌, vec_items, sym, refl, subst, append-nil, arith}
 use native.Mathlib.Nat.{sub-zero}
 use Rattle.key_record.specs.Record.{start}
 use Rattle.map_report.specs.Lines.{lines}
@@ -21,18 +21,18 @@ loop-bytes-init g c = (
       (reached_none whole rest c.args.timers all c.args.line.now n made),
 )
 
-pub slice-bounds-extend-from-slice-end : goal.slice-bounds-extend-from-slice-end
-slice-bounds-extend-from-slice-end g c = printed_fits _ _ _ _ c.in-Ok.ensures.1.2
+pub slice_bounds-extend_from_slice-end : goal.slice_bounds-extend_from_slice-end
+slice_bounds-extend_from_slice-end g c = printed_fits _ _ _ _ c.in-Ok.ensures.1.2
 
-pub loop-bytes-preserved-in-ok-extend-from-slice : goal.loop-bytes-preserved-in-ok-extend-from-slice
-loop-bytes-preserved-in-ok-extend-from-slice g c =
+pub loop-bytes-preserved-in_ok-extend_from_slice : goal.loop-bytes-preserved-in_ok-extend_from_slice
+loop-bytes-preserved-in_ok-extend_from_slice g c =
     let told = c.in-Ok.ensures.1 in
     let prints = subst (λ k. Prints g.P.Plan.whole g.P.Plan.rest c.args.timers k
     c.loop-bytes.line
     c.in-Some.bytes.now told.0 c.obey.new.line) c.loop-bytes.invariant.0 told.1 in
-    let grown : vec_items c.extend-from-slice.new.self ≡ vec_items c.loop-bytes.out ++ told.0 =
+    let grown : vec_items c.extend_from_slice.new.self ≡ vec_items c.loop-bytes.out ++ told.0 =
     cc (
-      c.in-ok-extend-from-slice.ensures.items,
+      c.in_ok-extend_from_slice.ensures.items,
       sub-zero c.in-Ok.length,
       printed_front _ _ _ _ told.2,
     ) in (
@@ -45,5 +45,5 @@ pub returns : goal.returns
 returns g c n made =
     let none = subst (λ (bs : List ℕ). Transcript (g.P.Plan.whole c.args.line.now.plan)
     c.args.timers
-    (c.loop-bytes.invariant.1 n made).kept (lines bs) []) (sym c.in-default.ensures) refl in
+    (c.loop-bytes.invariant.1 n made).kept (lines bs) []) (sym c.in_default.ensures) refl in
     rw append-nil at ((c.loop-bytes.invariant.1 n made).so_far [] none)

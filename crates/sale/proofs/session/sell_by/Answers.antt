@@ -14,8 +14,8 @@ returns-in-Ok c =
     let same = subst (λ p. Same (whole_of p) (MapEntry (places c.in-Ok.map)))
     (sym c.new-line.ensures.plan)
     c.new.ensures.whole in
-    if_ok_then c.obey-lines-out.result _ _ (λ out told. map_sold c.args.text.now c.in-Ok.map
+    if_ok_then c.obey_lines-out.result _ _ (λ out told. map_sold c.args.text.now c.in-Ok.map
     (whole_of c.new-line.result.plan) c.timers-timers.result (lines c.args.commands.now)
     (vec_items out) c.in-Ok.ensures same c.timers-timers.ensures
     (told 1 c.new-line.ensures.state))
-    c.obey-lines-out.ensures
+    c.obey_lines-out.ensures
