@@ -1,5 +1,5 @@
 -- Lines that end a sale, and the sales that they end. Assumes nothing.
-use Rattle.std.proofs.Common.{◌≡◌, ℕ, ◌+◌, ◌<◌, ◌≤◌, ltb, List, [], ◌∷◌, ◌++◌, length, take, drop, Some, None, Option, sym, ap, ◌∙◌, subst, inl, inr, append_assoc, arith, length-append, length-drop, Bor, MatchOption}
+use Rattle.std.proofs.Common.{◌≡◌, ℕ, ◌+◌, ◌<◌, ◌≤◌, ltb, List, [], ◌++◌, length, take, drop, Some, None, Option, sym, ap, ◌∙◌, subst, inl, inr, append_assoc, arith, length-append, length-drop, Bor, MatchOption}
 use Rattle.std.proofs.lemmas.List.{append-nil, length-take-le}
 use Rattle.std.proofs.lemmas.Bool.{cases_Bool, ltb-true, ltb-false}
 use Rattle.sale.specs.Sales.{Sold}

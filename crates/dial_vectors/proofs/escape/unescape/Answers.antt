@@ -12,7 +12,7 @@ loop-byte-preserved-then-escaped c =
     let left : out ++ unescaped true (drop at text) ≡ unescaped false text =
     simp c.if-escaped.true at c.loop-byte.invariant in
     let grown : vec_items c.push.new.self ≡ out ++ meaning (get_or text at 0) ∷ [] =
-    cc (c.in-ok-push.ensures.items, c.meant.ensures) in
+    cc (c.in_ok-push.ensures.items, c.meant.ensures) in
     rw grown (escaped_read text at c.loop-byte-test.true out (unescaped false text) left)
 
 pub loop-byte-preserved-then-byte-eq92 : goal.loop-byte-preserved-then-byte-eq92
@@ -32,7 +32,7 @@ loop-byte-preserved c =
     let out = vec_items c.loop-byte.out in
     let left : out ++ unescaped false (drop at text) ≡ unescaped false text =
     simp c.if-escaped.false at c.loop-byte.invariant in
-    rw (c.in-ok-push-2.ensures.items, c.if-escaped.false)
+    rw (c.in_ok-push-2.ensures.items, c.if-escaped.false)
     (plain_read text at c.loop-byte-test.true out (unescaped false text) c.if-byte-eq92.false left)
 
 pub returns : goal.returns

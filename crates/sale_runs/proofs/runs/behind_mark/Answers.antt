@@ -16,6 +16,6 @@ returns c =
       | else-at-gt0-via-then-at-gt0+else-input-at-ne10 w ↦ inr w.if-input-at-ne10.false
       | else-at-gt0-via-else-at-gt0 w ↦ inl (omega (arith, w.if-at-gt0.false))
     ] in
-    marked_by c.args.input.now c.args.at _ c.strip-prefix.result
+    marked_by c.args.input.now c.args.at _ c.strip_prefix.result
     (take_rest c.args.input.now c.args.at) line
-    (strip_prefix_is Decides-eqb _ mark c.strip-prefix.result c.strip-prefix.ensures.cases)
+    (strip_prefix_is Decides-eqb _ mark c.strip_prefix.result c.strip_prefix.ensures.cases)

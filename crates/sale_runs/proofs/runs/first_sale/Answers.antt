@@ -11,7 +11,7 @@ returns-in-Some c =
 
 pub loop-at-preserved : goal.loop-at-preserved
 loop-at-preserved c =
-    unmarked_more c.args.input.now c.loop-at.at c.loop-at.invariant c.in-default.ensures
+    unmarked_more c.args.input.now c.loop-at.at c.loop-at.invariant c.in_default.ensures
 
 pub returns : goal.returns
 returns c = λ k rest h. c.loop-at.invariant k rest (omega arith)
