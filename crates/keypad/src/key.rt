@@ -5,8 +5,8 @@ pub enum Symbol {
     Long(u8),
 }
 
-// The timing mark in force while a step, or the end of an entry, is awaited.
-#[derive(Clone, Copy, PartialEq, Eq, Debug)]
+// The timing mark in force while a step, or the end of an entry, is awaited, in the order of how long it waits.
+#[derive(Clone, Copy, PartialEq, Eq, PartialOrd, Ord, Debug)]
 pub enum Mark {
     Unmarked,
     Short,
