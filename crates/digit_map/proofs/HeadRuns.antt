@@ -39,16 +39,16 @@ use Rattle.digit_map.specs.Reads.{byte_at, field_sign, next_field, FieldRead, He
 use Rattle.digit_map.proofs.Runs.{run_next, by_byte_err, byte_moves, byte_loosens, went_byte}
 
 -- what the field from the cursor c on comes to, whatever was read before it
-abbrev Gives : List ℕ → Cursor → Field → ℕ → (Timers → Turn) → Type 0
-Gives text c i at g = (t : Timers) → run sale (state t [] (in_field i at Letter)) (rest text 0 c) ≡ g t
+abbrev Gives : List ℕ → ℕ → Cursor → Field → ℕ → (Timers → Turn) → Type 0
+Gives text base c i at g = (t : Timers) → run sale (state t [] (in_field i at Letter)) (rest text base c) ≡ g t
 
 -- a field from the cursor c on, of which the part up to b is read
-pub record FieldUpTo (text : List ℕ) (c : Cursor) (i : Field) (at : ℕ) (b : Cursor) (d : Digits)
+pub record FieldUpTo (text : List ℕ) (base : ℕ) (c : Cursor) (i : Field) (at : ℕ) (b : Cursor) (d : Digits)
     : Type 0 where
   pub low : c.at ≤ b.at
   pub high : b.at ≤ length text
   pub sound : SoundDigits d
-  pub is : Gives text c i at (λ t. run sale (state t [] (in_field i at d)) (rest text 0 b))
+  pub is : Gives text base c i at (λ t. run sale (state t [] (in_field i at d)) (rest text base b))
 
 -- a field ends with a comma
 done_comma : (i : Field) (d : Digits) (y v : ℕ) → Done v ≡ field_turn i d y → y ≡ 44
@@ -57,39 +57,39 @@ done_comma i Colon y v e = grind (arith, nat_tests)
 done_comma i (One x) y v e = grind (arith, nat_tests)
 done_comma i (Two x) y v e = grind (arith, nat_tests)
 
-module _ {text : List ℕ} {c : Cursor} {i : Field} {at : ℕ} {b : Cursor} {d : Digits}
-    {x : Token} {after : Cursor} (u : FieldUpTo text c i at b d) (next : Next text 0 b x after) where
-  taken : Gives text c i at (λ t. run sale (state t [] (in_field i at d)) (x ∷ behind text 0 x after))
+module _ {text : List ℕ} {base : ℕ} {c : Cursor} {i : Field} {at : ℕ} {b : Cursor} {d : Digits}
+    {x : Token} {after : Cursor} (u : FieldUpTo text base c i at b d) (next : Next text base b x after) where
+  taken : Gives text base c i at (λ t. run sale (state t [] (in_field i at d)) (x ∷ behind text base x after))
   taken t = u.is t ∙ run_next sale (state t [] (in_field i at d)) next
 
   -- a token that is no byte
-  pub field_broken : {e : Fault} → Err e ≡ byte_at 1 (fault cause.Head at 0) x → FieldRead text c i at (Err e)
+  pub field_broken : {e : Fault} → Err e ≡ byte_at 1 (fault cause.Head at 0) x → FieldRead text base c i at (Err e)
   field_broken {e} g t =
-      taken t ∙ ap (λ (r : Turn). went sale r (behind text 0 x after)) (by_byte_err 1 _ _ x e g)
+      taken t ∙ ap (λ (r : Turn). went sale r (behind text base x after)) (by_byte_err 1 _ _ x e g)
 
   module _ {y : ℕ} (g : Ok y ≡ byte_at 1 (fault cause.Head at 0) x) where
     turned : (s : FieldTurn) → s ≡ field_turn i d y
-        → Gives text c i at (λ t. went sale (fielded t i at s) (rest text 0 after))
+        → Gives text base c i at (λ t. went sale (fielded t i at s) (rest text base after))
     turned s e t =
         taken t
-        ∙ (went_byte text 0 after sale 1 _ y _ x g
-        ∙ ap (λ (r : FieldTurn). went sale (fielded t i at r) (rest text 0 after)) (sym e))
+        ∙ (went_byte text base after sale 1 _ y _ x g
+        ∙ ap (λ (r : FieldTurn). went sale (fielded t i at r) (rest text base after)) (sym e))
 
     moved : b.at < after.at
     moved = byte_moves 1 _ y _ _ x g next.moves
 
-    pub field_on : {r : Digits} → On r ≡ field_turn i d y → SoundDigits r → FieldUpTo text c i at after r
+    pub field_on : {r : Digits} → On r ≡ field_turn i d y → SoundDigits r → FieldUpTo text base c i at after r
     field_on {r} e h =
         let l = u.low in let v = moved in
         record { low = omega arith; high = next.high; sound = h; is = turned (On r) e }
 
-    pub field_done : {v : ℕ} → Done v ≡ field_turn i d y → v < 100 → FieldRead text c i at (Ok (v, after))
+    pub field_done : {v : ℕ} → Done v ≡ field_turn i d y → v < 100 → FieldRead text base c i at (Ok (v, after))
     field_done {v} e h =
         let l = u.low in let m = moved in
         let j = byte_loosens 1 _ y _ x g next.loosens in
         (omega arith, next.high, j ∙ ap joint (done_comma i d y v e), h, turned (Done v) e)
 
-    pub field_bad : Bad ≡ field_turn i d y → FieldRead text c i at (Err (fault cause.Head at 0))
+    pub field_bad : Bad ≡ field_turn i d y → FieldRead text base c i at (Err (fault cause.Head at 0))
     field_bad e = turned Bad e
 
 -- no field may begin: the same sign behind the last one
@@ -174,10 +174,10 @@ module _ {text : List ℕ} {t : Timers} {k : ℕ} {b : Cursor} {x : Token} {afte
         ∙ (ap (λ (r : Turn). went sale r (behind text 0 x after)) (field_begins k i at t x e)
         ∙ ap (run sale (state t [] (in_field i at Letter))) (field_behind k i at text after x e)))
 
-    pub head_bad : {f : Fault} → FieldRead text after i at (Err f) → HeadRead text (Err f)
+    pub head_bad : {f : Fault} → FieldRead text 0 after i at (Err f) → HeadRead text (Err f)
     head_bad r = begun ∙ r t
 
-    pub head_on : {v : ℕ} {d : Cursor} → FieldRead text after i at (Ok (v, d))
+    pub head_on : {v : ℕ} {d : Cursor} → FieldRead text 0 after i at (Ok (v, d))
         → HeadUpTo text (timed t i v) (rank i + 1) d
     head_on r =
         record { high = r.1; loose = r.2 ∙ sym (lt-ltb _ _ (omega (arith, r.0))); is = begun ∙ r.4 t }

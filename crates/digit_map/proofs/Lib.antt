@@ -1,3 +1,4 @@
+pub mod Readers
 pub mod Runs
 pub mod Gaps
 pub mod NodeLaws

@@ -12,6 +12,7 @@ pub mod Acts
 pub mod Turns
 pub mod Skips
 pub mod Rooms
+pub mod Readers
 pub mod Reads
 pub mod Grammar
 pub mod Standing

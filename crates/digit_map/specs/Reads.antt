@@ -70,13 +70,13 @@ SetRead text base c at n (Err e) =
     (t : Timers) (ns : List Node) (f : Frame) (p : Progress) (l : Bool) → f.number ≡ n →
     run sale (state t ns (in_set f p l at place.Start 0)) (rest text base c) ≡ bad e
 
-abbrev pub FieldRead : List ℕ → Cursor → Field → ℕ → Result (ℕ × Cursor) Fault → Type 0
-FieldRead text c i at (Ok x) =
+abbrev pub FieldRead : List ℕ → ℕ → Cursor → Field → ℕ → Result (ℕ × Cursor) Fault → Type 0
+FieldRead text base c i at (Ok x) =
     (c.at < x.1.at) × (x.1.at ≤ length text) × (x.1.loose ≡ true) × (x.0 < 100)
-    × ((t : Timers) → run sale (state t [] (in_field i at digits.Letter)) (rest text 0 c)
-    ≡ run sale (state (timed t i x.0) [] (in_head (rank i + 1))) (rest text 0 x.1))
-FieldRead text c i at (Err e) = (t : Timers) →
-    run sale (state t [] (in_field i at digits.Letter)) (rest text 0 c) ≡ bad e
+    × ((t : Timers) → run sale (state t [] (in_field i at digits.Letter)) (rest text base c)
+    ≡ run sale (state (timed t i x.0) [] (in_head (rank i + 1))) (rest text base x.1))
+FieldRead text base c i at (Err e) = (t : Timers) →
+    run sale (state t [] (in_field i at digits.Letter)) (rest text base c) ≡ bad e
 
 -- behind the head no field may begin
 abbrev pub HeadRead : List ℕ → Result (Timers × ℕ) Fault → Type 0

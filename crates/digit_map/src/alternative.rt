@@ -6,15 +6,15 @@ ghost use Rattle.digit_map.specs.Acts.{acts, fresh, onward, at_dot, at_halt};
 ghost use Rattle.digit_map.specs.Turns.{fault_in_lem};
 ghost use Rattle.digit_map.specs.Rooms.{Room, RoomFor};
 ghost use Rattle.digit_map.specs.Reads.{sign_at, AlternativeRead, ClosedRead, AlternativesRead};
+ghost use Rattle.digit_map.specs.Readers.{SamePart, placed};
 
-use crate::blank::next_token;
 use crate::draft::Draft;
 use crate::fault::{Cause, Fault};
 use crate::node::Position;
 use crate::progress::{Act, Frame, Last, Progress};
-use crate::set::read_set;
+use crate::reader::Reader;
 use crate::sign::{Sign, read_byte};
-use crate::token::{Cursor, Token};
+use crate::token::Token;
 use keypad::key::Mark;
 
 // The sign of a token outside sets and fields, and its offset.
@@ -164,86 +164,74 @@ fn act(frame: Frame, positions: usize, progress: Progress, sign: Sign, at: usize
     }
 }
 
-// Reads an alternative from the cursor on and adds its places to the draft; answers the sign that ended it
-// and the cursor behind.
-fn read_alternative(
-    text: &[u8],
-    base: usize,
-    cursor: Cursor,
-    frame: Frame,
-    draft: &mut Draft,
-) -> Result<(Sign, Cursor), Fault>
-    requires within { cursor.at ≤ length text.now }
-    requires fits { base + length text.now < 2 ^ 64 }
-    requires positions { count_positions (drafted draft.old) ≤ 255 }
-    requires ends { (count_ends (drafted draft.old) + 1 ≡ frame.number) × (frame.number ≤ 65) }
-    ensures reads { AlternativeRead text.now base cursor frame draft.old draft.new result }
-    ensures room { count_positions (drafted draft.new) ≤ 255 }
-{
-    let mut progress = nothing_read();
-    let mut behind = cursor;
-    'signs: loop {
-        let (token, after) = next_token(text, base, behind);
-        let (sign, at) = token_sign(token, frame.number)?;
-        behind = after;
-        match act(frame, draft.positions(), progress, sign, at) {
-            Act::Go(next) => progress = next,
-            Act::Put(position, next) => {
-                draft.put(position, progress.mark, progress.marked);
-                progress = next;
+impl Reader<'_> {
+    // Reads an alternative and adds its places to the draft; answers the sign that ended it.
+    fn alternative(&mut self, frame: Frame, draft: &mut Draft) -> Result<Sign, Fault>
+        requires positions { count_positions (drafted draft.old) ≤ 255 }
+        requires ends { (count_ends (drafted draft.old) + 1 ≡ frame.number) × (frame.number ≤ 65) }
+        ensures same { SamePart self.old self.new }
+        ensures reads { AlternativeRead self.old.text.now self.old.base self.old.cursor frame draft.old draft.new
+            (placed result self.new.cursor) }
+        ensures room { count_positions (drafted draft.new) ≤ 255 }
+    {
+        let mut progress = nothing_read();
+        'signs: loop {
+            let (sign, at) = token_sign(self.next(), frame.number)?;
+            match act(frame, draft.positions(), progress, sign, at) {
+                Act::Go(next) => progress = next,
+                Act::Put(position, next) => {
+                    draft.put(position, progress.mark, progress.marked);
+                    progress = next;
+                }
+                Act::AddDot(next) => {
+                    draft.dot_last();
+                    progress = next;
+                }
+                Act::OpenSet(long) => {
+                    let keys = self.set(at, frame.number)?;
+                    draft.put(
+                        Position {
+                            keys,
+                            long,
+                            dotted: false,
+                        },
+                        progress.mark,
+                        progress.marked,
+                    );
+                    progress = go_on(progress, at, progress.mark, false, Last::Position);
+                }
+                Act::Halt => {
+                    draft.end(progress.mark, progress.marked);
+                    return Ok(sign);
+                }
+                Act::Wrong(cause, offset) => return Err(fault_in(frame.number, cause, offset)),
             }
-            Act::AddDot(next) => {
-                draft.dot_last();
-                progress = next;
-            }
-            Act::OpenSet(long) => {
-                let (keys, close) = read_set(text, base, after, at, frame.number)?;
-                draft.put(
-                    Position {
-                        keys,
-                        long,
-                        dotted: false,
-                    },
-                    progress.mark,
-                    progress.marked,
-                );
-                progress = go_on(progress, at, progress.mark, false, Last::Position);
-                behind = close;
-            }
-            Act::Halt => {
-                draft.end(progress.mark, progress.marked);
-                return Ok((sign, after));
-            }
-            Act::Wrong(cause, offset) => return Err(fault_in(frame.number, cause, offset)),
         }
     }
-}
 
-// Behind the closing round bracket only the text's end may stand.
-fn read_close(text: &[u8], base: usize, cursor: Cursor, alternative: u8) -> Result<(), Fault>
-    requires within { cursor.at ≤ length text.now }
-    requires fits { base + length text.now < 2 ^ 64 }
-    ensures { ClosedRead text.now base cursor alternative result }
-{
-    let (token, _) = next_token(text, base, cursor);
-    let (sign, at) = token_sign(token, alternative)?;
-    match sign {
-        Sign::End => Ok(()),
-        Sign::Field(_) => Err(Fault {
-            cause: Cause::Head,
-            offset: at,
-            alternative: 0,
-        }),
-        Sign::Dot => Err(Fault {
-            cause: Cause::Affix,
-            offset: at,
-            alternative,
-        }),
-        _ => Err(Fault {
-            cause: Cause::Byte,
-            offset: at,
-            alternative,
-        }),
+    // Behind the closing round bracket only the text's end may stand.
+    fn close(mut self, alternative: u8) -> Result<(), Fault>
+        ensures { ClosedRead self.entry.text.now self.entry.base self.entry.cursor alternative result }
+    {
+        let (sign, at) = token_sign(self.next(), alternative)?;
+        match sign {
+            Sign::End => Ok(()),
+            Sign::Field(_) => Err(Fault {
+                cause: Cause::Head,
+                offset: at,
+                alternative: 0,
+            }),
+            Sign::Dot => Err(Fault {
+                cause: Cause::Affix,
+                offset: at,
+                alternative,
+            }),
+            _ => Err(Fault {
+                cause: Cause::Byte,
+                offset: at,
+                alternative,
+            }),
+        }
     }
 }
 
@@ -259,28 +247,26 @@ pub(crate) fn read_alternatives(
     requires empty { drafted draft.old ≡ [] }
     ensures { AlternativesRead text.now base loose draft.old draft.new result }
 {
-    let begin = Cursor { at: 0, loose };
-    let (token, after) = next_token(text, base, begin);
-    let (sign, _) = token_sign(token, 1)?;
-    let (bracketed, mut behind) = match sign {
-        Sign::Open => (true, after),
-        _ => (false, begin),
+    let start = Reader::begin(text, base, loose);
+    let mut ahead = start;
+    let (sign, _) = token_sign(ahead.next(), 1)?;
+    let (bracketed, mut reader) = match sign {
+        Sign::Open => (true, ahead),
+        _ => (false, start),
     };
     let mut frame = Frame {
         bracketed,
         number: 1,
     };
     'alternatives: loop {
-        let (sign, after) = read_alternative(text, base, behind, frame, draft)?;
-        match sign {
+        match reader.alternative(frame, draft)? {
             Sign::Bar => {
                 frame = Frame {
                     bracketed: true,
                     number: frame.number + 1,
                 };
-                behind = after;
             }
-            Sign::Close => return read_close(text, base, after, frame.number),
+            Sign::Close => return reader.close(frame.number),
             _ => return Ok(()),
         }
     }

@@ -2,7 +2,9 @@ ghost use Rattle.std.specs.Prelude.{◌≡◌, ℕ, ◌+◌, ◌^◌, ◌<◌, �
 ghost use Rattle.digit_map.specs.Bytes.{blank, joint, field_letter};
 ghost use Rattle.digit_map.specs.Tokens.{joint_ahead, colon_ahead, Next};
 ghost use Rattle.digit_map.specs.Skips.{Skipped};
+ghost use Rattle.digit_map.specs.Readers.{SamePart};
 
+use crate::reader::Reader;
 use crate::token::{Cursor, Token};
 
 fn is_blank(byte: u8) -> bool
@@ -68,31 +70,39 @@ fn may_stand(text: &[u8], cursor: Cursor, n: usize) -> bool
     n <= cursor.at || cursor.loose || joint_at(text, n)
 }
 
-// The next token of a part of the text, whose first byte has the offset `base`, and the cursor behind it.
-pub(crate) fn next_token(text: &[u8], base: usize, cursor: Cursor) -> (Token, Cursor)
-    requires within { cursor.at ≤ length text.now }
-    requires fits { base + length text.now < 2 ^ 64 }
-    ensures { Next text.now base cursor result.0 result.1 }
-{
-    let n = skip(text, cursor.at);
-    if !may_stand(text, cursor, n) {
-        return (Token::Gap(base + cursor.at), cursor);
+impl<'a> Reader<'a> {
+    // Before the first byte of a part; `loose` says that blanks may stand there for what is before it.
+    pub(crate) fn begin(text: &'a [u8], base: usize, loose: bool) -> Reader<'a>
+        requires { base + length text.now < 2 ^ 64 }
+        ensures text { result.text.now ≡ text.now }
+        ensures base { result.base ≡ base }
+        ensures cursor { result.cursor ≡ record { at = 0; loose = loose } }
+    {
+        let cursor = Cursor { at: 0, loose };
+        Reader { text, base, cursor }
     }
-    if n >= text.len() {
-        return (
-            Token::End(base + n),
-            Cursor {
+
+    // The next token, and the reader behind it.
+    pub(crate) fn next(&mut self) -> Token
+        ensures same { SamePart self.old self.new }
+        ensures reads { Next self.old.text.now self.old.base self.old.cursor result self.new.cursor }
+    {
+        let cursor = self.cursor;
+        let n = skip(self.text, cursor.at);
+        if !may_stand(self.text, cursor, n) {
+            return Token::Gap(self.base + cursor.at);
+        }
+        if n >= self.text.len() {
+            self.cursor = Cursor {
                 at: n,
                 loose: false,
-            },
-        );
-    }
-    let field = begins_field(text, n);
-    (
-        Token::Byte(text[n], field, base + n),
-        Cursor {
+            };
+            return Token::End(self.base + n);
+        }
+        self.cursor = Cursor {
             at: n + 1,
-            loose: is_joint(text[n]),
-        },
-    )
+            loose: is_joint(self.text[n]),
+        };
+        Token::Byte(self.text[n], begins_field(self.text, n), self.base + n)
+    }
 }

@@ -1,12 +1,13 @@
 ghost use Rattle.std.specs.Prelude.{◌≡◌, ◌+◌, ◌^◌, ◌<◌, ◌≤◌, length};
 ghost use Rattle.digit_map.specs.Fields.{rank, fits, timed, field_turn, SoundDigits, SoundField};
 ghost use Rattle.digit_map.specs.Reads.{FieldRead, HeadRead, next_field};
+ghost use Rattle.digit_map.specs.Readers.{SamePart, placed};
 
-use crate::blank::next_token;
 use crate::fault::{Cause, Fault};
+use crate::reader::Reader;
 use crate::set::token_byte;
 use crate::sign::{Field, Sign, read_byte};
-use crate::token::{Cursor, Token};
+use crate::token::Token;
 use keypad::timers::{Timers, standard_timers};
 
 // How far a field is read: behind its letter, its colon, its first digit, its second.
@@ -100,33 +101,26 @@ fn turn_field(field: Field, digits: Digits, byte: u8) -> FieldTurn
     }
 }
 
-// The value of the field whose letter has the offset `letter`, from behind it on, and the cursor behind its
-// comma.
-fn read_field(
-    text: &[u8],
-    cursor: Cursor,
-    field: Field,
-    letter: usize,
-) -> Result<(u8, Cursor), Fault>
-    requires within { cursor.at ≤ length text.now }
-    requires fits { length text.now < 2 ^ 64 }
-    ensures { FieldRead text.now cursor field letter result }
-{
-    let ill_formed = Fault {
-        cause: Cause::Head,
-        offset: letter,
-        alternative: 0,
-    };
-    let mut digits = Digits::Letter;
-    let mut behind = cursor;
-    'bytes: loop {
-        let (token, after) = next_token(text, 0, behind);
-        let byte = token_byte(token, 1, ill_formed)?;
-        behind = after;
-        match turn_field(field, digits, byte) {
-            FieldTurn::On(next) => digits = next,
-            FieldTurn::Done(value) => return Ok((value, behind)),
-            FieldTurn::Bad => return Err(ill_formed),
+impl Reader<'_> {
+    // The value of the field whose letter has the offset `letter`, from behind it on to its comma.
+    fn field(&mut self, field: Field, letter: usize) -> Result<u8, Fault>
+        ensures same { SamePart self.old self.new }
+        ensures reads { FieldRead self.old.text.now self.old.base self.old.cursor field letter
+            (placed result self.new.cursor) }
+    {
+        let ill_formed = Fault {
+            cause: Cause::Head,
+            offset: letter,
+            alternative: 0,
+        };
+        let mut digits = Digits::Letter;
+        'bytes: loop {
+            let byte = token_byte(self.next(), 1, ill_formed)?;
+            match turn_field(field, digits, byte) {
+                FieldTurn::On(next) => digits = next,
+                FieldTurn::Done(value) => return Ok(value),
+                FieldTurn::Bad => return Err(ill_formed),
+            }
         }
     }
 }
@@ -147,23 +141,19 @@ fn field_from(token: Token, least: u8) -> Option<(Field, usize)>
 
 // The timers that the head sets, and the index behind it, 0 where there is no head.
 pub(crate) fn read_head(text: &[u8]) -> Result<(Timers, usize), Fault>
-    requires { length text.now < 2 ^ 64 }
     ensures { HeadRead text.now result }
 {
     let mut timers = standard_timers();
     let mut least: u8 = 0;
-    let mut behind = Cursor {
-        at: 0,
-        loose: false,
-    };
+    let mut reader = Reader::begin(text, 0, false);
     'fields: loop {
-        let (token, after) = next_token(text, 0, behind);
-        let Some((field, letter)) = field_from(token, least) else {
-            return Ok((timers, behind.at));
+        let mut ahead = reader;
+        let Some((field, letter)) = field_from(ahead.next(), least) else {
+            return Ok((timers, reader.cursor.at));
         };
-        let (value, comma) = read_field(text, after, field, letter)?;
+        let value = ahead.field(field, letter)?;
         timers = with_field(timers, field, value);
         least = order(field) + 1;
-        behind = comma;
+        reader = ahead;
     }
 }

@@ -10,6 +10,7 @@ pub mod map;
 pub mod node;
 pub mod progress;
 pub mod read;
+mod reader;
 pub mod set;
 pub mod sign;
 pub mod token;

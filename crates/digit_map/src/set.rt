@@ -1,10 +1,11 @@
 ghost use Rattle.std.specs.Prelude.{◌≡◌, ◌+◌, ◌^◌, ◌<◌, ◌≤◌, length};
 ghost use Rattle.digit_map.specs.Sets.{set_turn, span, Sound, SoundTurn};
 ghost use Rattle.digit_map.specs.Reads.{byte_at, SetRead};
+ghost use Rattle.digit_map.specs.Readers.{SamePart, placed};
 
-use crate::blank::next_token;
 use crate::fault::{Cause, Fault};
-use crate::token::{Cursor, Token};
+use crate::reader::Reader;
+use crate::token::Token;
 
 // Where a set's reader stands: before its first member, behind a member, behind a digit that may begin a
 // range, behind its hyphen.
@@ -72,38 +73,30 @@ pub(crate) fn token_byte(token: Token, alternative: u8, unfinished: Fault) -> Re
     }
 }
 
-// The keys of the set whose opening bracket has the offset `opened`, from the byte behind it on, and the
-// cursor behind its closing bracket.
-pub(crate) fn read_set(
-    text: &[u8],
-    base: usize,
-    cursor: Cursor,
-    opened: usize,
-    alternative: u8,
-) -> Result<(u16, Cursor), Fault>
-    requires within { cursor.at ≤ length text.now }
-    requires fits { base + length text.now < 2 ^ 64 }
-    ensures { SetRead text.now base cursor opened alternative result }
-{
-    let unread = Fault {
-        cause: Cause::Set,
-        offset: opened,
-        alternative,
-    };
-    let mut keys: u16 = 0;
-    let mut place = Place::Start;
-    let mut behind = cursor;
-    'bytes: loop {
-        let (token, after) = next_token(text, base, behind);
-        let byte = token_byte(token, alternative, unread)?;
-        behind = after;
-        match turn_set(place, keys, byte) {
-            SetTurn::On(next, more) => {
-                place = next;
-                keys = more;
+impl Reader<'_> {
+    // The keys of the set whose opening bracket has the offset `opened`, from the byte behind it on.
+    pub(crate) fn set(&mut self, opened: usize, alternative: u8) -> Result<u16, Fault>
+        ensures same { SamePart self.old self.new }
+        ensures reads { SetRead self.old.text.now self.old.base self.old.cursor opened alternative
+            (placed result self.new.cursor) }
+    {
+        let unread = Fault {
+            cause: Cause::Set,
+            offset: opened,
+            alternative,
+        };
+        let mut keys: u16 = 0;
+        let mut place = Place::Start;
+        'bytes: loop {
+            let byte = token_byte(self.next(), alternative, unread)?;
+            match turn_set(place, keys, byte) {
+                SetTurn::On(next, more) => {
+                    place = next;
+                    keys = more;
+                }
+                SetTurn::Done(all) => return Ok(all),
+                SetTurn::Bad => return Err(unread),
             }
-            SetTurn::Done(all) => return Ok((all, behind)),
-            SetTurn::Bad => return Err(unread),
         }
     }
 }
