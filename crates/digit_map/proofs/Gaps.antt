@@ -1,42 +1,65 @@
 -- Runs of blanks, and the next token of a text. Assumes nothing.
-use Rattle.std.proofs.Common.{◌≡◌, ℕ, ◌+◌, ◌<◌, ◌≤◌, Bool, true, false, cond, ◌&&◌, ◌||◌, eqb, leb, List, [], ◌∷◌, length, get_or, drop, sym, refl, ap, ◌∙◌, inl, inr, arith}
-use Rattle.std.proofs.lemmas.List.{at_drop_more, at_drop_all}
-use Rattle.std.proofs.lemmas.Bool.{cond-true, cond-false, cases_lt, leb-true, leb-false, or_cases, or_parts}
+use Rattle.std.proofs.Common.{◌≡◌, ℕ, suc, ◌+◌, ◌<◌, ◌≤◌, Bool, true, false, cond, not, ◌&&◌, ◌||◌, eqb, List, [], ◌∷◌, length, length-drop, get_or, drop, find, Some, None, Option, MatchOption, sym, refl, ap, ◌∙◌, inl, inr, arith}
+use Rattle.std.proofs.Math.Numerals.{one-add}
+use Rattle.std.specs.List.{prefix_len}
+use Rattle.std.proofs.lemmas.List.{at_drop_more, at_drop_all, get_or-drop, drop-drop}
+use Rattle.std.proofs.lemmas.List.Sums.{prefix_len-le-length, prefix_len_stops}
+use Rattle.std.proofs.lemmas.Bool.{cond-true, cond-false, eqb-true, or_cases, or_parts}
 use Rattle.digit_map.specs.declared.token.Token.TheVariants.{Byte, Gap, End}
 use Rattle.digit_map.specs.declared.token.Cursor.{Cursor}
 use Rattle.digit_map.specs.Bytes.{blank, joint, field_letter}
 use Rattle.digit_map.specs.Tokens.{joint_ahead, colon_ahead, token, tokens, rest, Next}
-use Rattle.digit_map.specs.Skips.{Skipped}
+use Rattle.digit_map.specs.Skips.{may_stand, past_blanks_lem}
 
--- a blank at i
-module _ (text : List ℕ) (i : ℕ) (h : i < length text) (e : blank (get_or text i 0) ≡ true) where
-  pub joint_past : joint_ahead (drop i text) ≡ joint_ahead (drop (i + 1) text)
-  joint_past = at_drop_more joint_ahead text i 0 h ∙ cond-true _ _ _ e
+-- a search for the first byte that is no blank
+abbrev pub solid : List ℕ → Option ℕ
+solid = find (λ b. not (blank b))
 
-  pub colon_past : colon_ahead (drop i text) ≡ colon_ahead (drop (i + 1) text)
-  colon_past = at_drop_more colon_ahead text i 0 h ∙ cond-true _ _ _ e
+abbrev pub by_solid : (ℕ → Bool) → Option ℕ → Bool
+by_solid p None = false
+by_solid p (Some b) = p b
 
-  pub tokens_past : (o : ℕ)
-      → tokens true (o + i) (drop i text) ≡ tokens true (o + (i + 1)) (drop (i + 1) text)
-  tokens_past o =
-      at_drop_more (tokens true (o + i)) text i 0 h
-      ∙ (cond-true _ _ _ e ∙ ap (λ k. tokens true k (drop (i + 1) text)) (omega arith))
+-- a test of the first such byte, by what `is_some_and` answers
+pub some_and : (p : ℕ → Bool) (Q : ℕ → Type 0) (r : Bool) (o : Option ℕ) → MatchOption o (r ≡ false) Q →
+    ((b : ℕ) → Q b → r ≡ p b) → r ≡ by_solid p o
+some_and p Q r None h same = h
+some_and p Q r (Some b) h same = same b h
 
--- the first byte passed is a blank
-pub first_passed : (text : List ℕ) (from i : ℕ) → from ≤ i → (from < i → blank (get_or text from 0) ≡ true)
-    → blank (get_or text i 0) ≡ true → blank (get_or text from 0) ≡ true
-first_passed text from i l p e =
-    elim (cases_lt from i) [ inl h ↦ p h | inr h ↦ let s : from ≡ i = omega arith in rw s e ]
+find_by : (p : ℕ → Bool) (x : Bool) (b : ℕ) (o : Option ℕ) →
+    by_solid p (cond (not x) (Some b) o) ≡ cond x (by_solid p o) (p b)
+find_by p true b o = refl
+find_by p false b o = refl
+
+pub joint_solid : (xs : List ℕ) → by_solid joint (solid xs) ≡ joint_ahead xs
+joint_solid [] = refl
+joint_solid (b ∷ bs) =
+    find_by joint (blank b) b (solid bs) ∙ ap (λ v. cond (blank b) v (joint b)) (joint_solid bs)
+
+pub colon_solid : (xs : List ℕ) → by_solid (λ b. eqb b 58) (solid xs) ≡ colon_ahead xs
+colon_solid [] = refl
+colon_solid (b ∷ bs) =
+    find_by (λ b. eqb b 58) (blank b) b (solid bs) ∙ ap (λ v. cond (blank b) v (eqb b 58)) (colon_solid bs)
+
+-- what stands behind the blanks that a text begins with
+abbrev Passed : List ℕ → ℕ → Type 0
+Passed xs k = (o : ℕ) → tokens true o xs ≡ tokens true (o + k) (drop k xs)
+
+passed_by : (b : ℕ) (bs : List ℕ) (x : Bool) → blank b ≡ x → Passed bs (prefix_len blank bs) →
+    Passed (b ∷ bs) (cond x (1 + prefix_len blank bs) 0)
+passed_by b bs true e h o =
+    let k = prefix_len blank bs in
+    let z : o + 1 + k ≡ o + suc k = omega arith in
+    rw one-add (cond-true _ _ _ e ∙ (h (o + 1) ∙ ap (λ n. tokens true n (drop k bs)) z))
+passed_by b bs false e h o = ap (λ n. tokens true n (b ∷ bs)) (omega arith)
+
+passed : (xs : List ℕ) → Passed xs (prefix_len blank xs)
+passed [] o = ap (λ n. tokens true n []) (omega arith)
+passed (b ∷ bs) o =
+    passed_by b bs (blank b) refl (passed bs) o
 
 -- no blank at n
 module _ (text : List ℕ) (n : ℕ) (h : n < length text) (e : blank (get_or text n 0) ≡ false) where
-  pub joint_here : joint_ahead (drop n text) ≡ joint (get_or text n 0)
-  joint_here = at_drop_more joint_ahead text n 0 h ∙ cond-false _ _ _ e
-
-  pub colon_here : colon_ahead (drop n text) ≡ eqb (get_or text n 0) 58
-  colon_here = at_drop_more colon_ahead text n 0 h ∙ cond-false _ _ _ e
-
-  pub token_here : (j : Bool) (o : ℕ)
+  token_here : (j : Bool) (o : ℕ)
       → tokens j (o + n) (drop n text)
       ≡ token (get_or text n 0) (drop (n + 1) text) (o + n)
       ∷ tokens (joint (get_or text n 0)) (o + (n + 1)) (drop (n + 1) text)
@@ -45,12 +68,6 @@ module _ (text : List ℕ) (n : ℕ) (h : n < length text) (e : blank (get_or te
       let bs = drop (n + 1) text in
       at_drop_more (tokens j (o + n)) text n 0 h
       ∙ (cond-false _ _ _ e ∙ ap (λ k. token b bs (o + n) ∷ tokens (joint b) k bs) (omega arith))
-
-pub joint_none : (text : List ℕ) (n : ℕ) → length text ≤ n → joint_ahead (drop n text) ≡ false
-joint_none text n h = at_drop_all joint_ahead text n h
-
-pub colon_none : (text : List ℕ) (n : ℕ) → length text ≤ n → colon_ahead (drop n text) ≡ false
-colon_none text n h = at_drop_all colon_ahead text n h
 
 same_ways : {A : Type 0} (x j k l : Bool) (p q r : A) → (j || cond x k l) ≡ true
     → cond x (cond (j || k) p q) r ≡ cond x p r
@@ -63,68 +80,102 @@ loosen j o [] e = refl
 loosen j o (b ∷ bs) e = same_ways (blank b) j (joint_ahead bs) (joint b) _ _ _ e
 
 -- a run of blanks that may not
-gap_here : (text : List ℕ) (i o : ℕ) → i < length text → blank (get_or text i 0) ≡ true
-    → joint_ahead (drop i text) ≡ false → tokens false o (drop i text) ≡ Gap o ∷ []
-gap_here text i o h e f =
-    at_drop_more (tokens false o) text i 0 h
-    ∙ (cond-true _ _ _ e ∙ cond-false _ _ _ (sym (joint_past text i h e) ∙ f))
+gap_by : (o b : ℕ) (bs : List ℕ) (x : Bool) → blank b ≡ x →
+    eqb (cond x (1 + prefix_len blank bs) 0) 0 ≡ false → cond x (joint_ahead bs) (joint b) ≡ false →
+    tokens false o (b ∷ bs) ≡ Gap o ∷ []
+gap_by o b bs true e f g = cond-true _ _ _ e ∙ cond-false _ _ _ g
+gap_by o b bs false e f g = cc
 
--- the tokens from a cursor on are those from n on
-abbrev Reaches : List ℕ → ℕ → Cursor → ℕ → Type 0
-Reaches text base c n = (j : Bool) × (rest text base c ≡ tokens j (base + n) (drop n text))
+gap_here : (o : ℕ) (xs : List ℕ) → eqb (prefix_len blank xs) 0 ≡ false → joint_ahead xs ≡ false →
+    tokens false o xs ≡ Gap o ∷ []
+gap_here o [] f g = cc
+gap_here o (b ∷ bs) f g = gap_by o b bs (blank b) refl f g
 
--- the blanks from a cursor to n may stand, if there are any
-abbrev stands : List ℕ → Cursor → ℕ → Bool
-stands text c n = leb n c.at || (c.loose || joint_ahead (drop n text))
+refused : (t : Bool) (v : ℕ) → None ≡ cond t (Some v) None → t ≡ false
+refused true v e = cc
+refused false v e = refl
 
-module _ {text : List ℕ} {n : ℕ} (base : ℕ) (c : Cursor) (s : Skipped text c.at n) where
-  near : n ≤ c.at → Reaches text base c n
-  near h =
-      let e : c.at ≡ n = let l = s.low in omega arith in
-      (c.loose, ap (λ k. tokens c.loose (base + k) (drop k text)) e)
+taken : (t : Bool) (n v : ℕ) → Some n ≡ cond t (Some v) None → (t ≡ true) × (n ≡ v)
+taken true n v e = (refl, cc)
+taken false n v e = cc
 
-  far : (c.loose || joint_ahead (drop n text)) ≡ true → Reaches text base c n
-  far e =
-      let f : (c.loose || joint_ahead (drop c.at text)) ≡ true = rw s.joint e in
-      (true, loosen c.loose (base + c.at) (drop c.at text) f ∙ s.passed base)
+-- the tokens from a cursor on are those from n on, where no blank stands
+pub record Reaches (text : List ℕ) (base : ℕ) (c : Cursor) (n : ℕ) : Type 0 where
+  pub low : c.at ≤ n
+  pub high : n ≤ length text
+  pub stops : n < length text → blank (get_or text n 0) ≡ false
+  pub loose : Bool
+  pub is : rest text base c ≡ tokens loose (base + n) (drop n text)
 
-  reaches : stands text c n ≡ true → Reaches text base c n
-  reaches e = elim (or_cases _ _ e) [ inl h ↦ near (leb-true _ _ h) | inr h ↦ far h ]
+abbrev ahead : List ℕ → Cursor → List ℕ
+ahead text c = drop c.at text
 
-  pub next_gap : stands text c n ≡ false → Next text base c (Gap (base + c.at)) c
+abbrev blanks : List ℕ → Cursor → ℕ
+blanks text c = prefix_len blank (ahead text c)
+
+module _ {text : List ℕ} {c : Cursor} (base : ℕ) (high : c.at ≤ length text) where
+  pub next_gap : None ≡ past_blanks_lem text c → Next text base c (Gap (base + c.at)) c
   next_gap e =
-      let p = or_parts (leb n c.at) (c.loose || joint_ahead (drop n text)) e in
-      let q = or_parts c.loose (joint_ahead (drop n text)) p.1 in
-      let l = leb-false n c.at p.0 in
-      let h : c.at < length text = let k = s.high in omega arith in
-      let g = gap_here text c.at (base + c.at) h (s.passes l) (s.joint ∙ q.1) in
+      let p = or_parts (eqb (blanks text c) 0) (c.loose || joint_ahead (ahead text c)) (refused _ _ e) in
+      let q = or_parts c.loose (joint_ahead (ahead text c)) p.1 in
       record {
         moves = tt;
         loosens = tt;
-        high = omega arith;
-        is = ap (λ j. tokens j (base + c.at) (drop c.at text)) q.0 ∙ g;
+        high = high;
+        is = ap (λ j. tokens j (base + c.at) (ahead text c)) q.0 ∙ gap_here (base + c.at) (ahead text c) p.0 q.1;
       }
 
-  module _ (e : stands text c n ≡ true) where
-    pub next_end : {j : Bool} → length text ≤ n
-        → Next text base c (End (base + n)) (record { at = n; loose = j })
-    next_end h =
-        let r = reaches e in
-        record {
-          moves = tt;
-          loosens = tt;
-          high = s.high;
-          is = r.1 ∙ at_drop_all (tokens r.0 (base + n)) text n h;
-        }
+  reaches_by : (j : Bool) → rest text base c ≡ tokens j (base + (c.at + blanks text c)) (drop (c.at + blanks text c) text) →
+      Reaches text base c (c.at + blanks text c)
+  reaches_by j e =
+      let l = length-drop c.at text in
+      record {
+        low = omega arith;
+        high = omega (arith, prefix_len-le-length blank (ahead text c));
+        stops = λ h. sym (ap blank (get_or-drop c.at text (blanks text c) 0))
+            ∙ prefix_len_stops blank (ahead text c) 0 (omega arith);
+        loose = j;
+        is = e;
+      }
 
-    pub next_byte : {f j : Bool} → n < length text
-        → f ≡ (field_letter (get_or text n 0) && colon_ahead (drop (n + 1) text)) → j ≡ joint (get_or text n 0)
-        → Next text base c (Byte (get_or text n 0) f (base + n)) (record { at = n + 1; loose = j })
-    next_byte h p q =
-        let r = reaches e in
-        record {
-          moves = let l = s.low in omega arith;
-          loosens = q;
-          high = omega arith;
-          is = rw (p, q) (r.1 ∙ token_here text n h (s.stops h) r.0 base);
-        }
+  near : eqb (blanks text c) 0 ≡ true → Reaches text base c (c.at + blanks text c)
+  near h =
+      let z = eqb-true _ _ h in
+      let e : c.at ≡ c.at + blanks text c = omega arith in
+      reaches_by c.loose (ap (λ k. tokens c.loose (base + k) (drop k text)) e)
+
+  far : (c.loose || joint_ahead (ahead text c)) ≡ true → Reaches text base c (c.at + blanks text c)
+  far h =
+      let e : base + c.at + blanks text c ≡ base + (c.at + blanks text c) = omega arith in
+      reaches_by true
+      (loosen c.loose (base + c.at) (ahead text c) h
+      ∙ (passed (ahead text c) (base + c.at)
+      ∙ (ap (λ k. tokens true k (drop (blanks text c) (ahead text c))) e
+      ∙ ap (tokens true (base + (c.at + blanks text c))) (drop-drop (blanks text c) c.at text))))
+
+  pub reaches : {n : ℕ} → Some n ≡ past_blanks_lem text c → Reaches text base c n
+  reaches {n} e =
+      let t = taken (may_stand (ahead text c) c.loose) n (c.at + blanks text c) e in
+      rw t.1 (elim (or_cases _ _ t.0) [ inl h ↦ near h | inr h ↦ far h ])
+
+module _ {text : List ℕ} {n base : ℕ} {c : Cursor} (r : Reaches text base c n) where
+  pub next_end : {j : Bool} → length text ≤ n
+      → Next text base c (End (base + n)) (record { at = n; loose = j })
+  next_end h =
+      record {
+        moves = tt;
+        loosens = tt;
+        high = r.high;
+        is = r.is ∙ at_drop_all (tokens r.loose (base + n)) text n h;
+      }
+
+  pub next_byte : {b : ℕ} {f j : Bool} → n < length text → b ≡ get_or text n 0
+      → f ≡ (field_letter b && colon_ahead (drop (n + 1) text)) → j ≡ joint b
+      → Next text base c (Byte b f (base + n)) (record { at = n + 1; loose = j })
+  next_byte h e p q =
+      record {
+        moves = let l = r.low in omega arith;
+        loosens = q;
+        high = omega arith;
+        is = rw (p, q, e) (r.is ∙ token_here text n h (r.stops h) r.loose base);
+      }

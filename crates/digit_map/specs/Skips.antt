@@ -1,14 +1,15 @@
 -- A run of blanks passed over. Assumes nothing.
-use Rattle.std.specs.Prelude.{◌≡◌, ℕ, ◌+◌, ◌<◌, ◌≤◌, true, false, List, length, drop, slice_index}
+use Rattle.std.specs.Prelude.{ℕ, ◌+◌, Bool, cond, ◌||◌, ◌==◌, List, drop, Some, None, Option}
+use Rattle.std.specs.List.{prefix_len}
+use Rattle.digit_map.specs.declared.token.Cursor.{Cursor}
 use Rattle.digit_map.specs.Bytes.{blank}
-use Rattle.digit_map.specs.Tokens.{joint_ahead, colon_ahead, tokens}
+use Rattle.digit_map.specs.Tokens.{joint_ahead}
 
--- n is the first index from `from` on that has no blank
-pub record Skipped (text : List ℕ) (from n : ℕ) : Type 0 where
-  pub low : from ≤ n
-  pub high : n ≤ length text
-  pub stops : n < length text → blank (slice_index text n) ≡ false
-  pub passes : from < n → blank (slice_index text from) ≡ true
-  pub joint : joint_ahead (drop from text) ≡ joint_ahead (drop n text)
-  pub colon : colon_ahead (drop from text) ≡ colon_ahead (drop n text)
-  pub passed : (o : ℕ) → tokens true (o + from) (drop from text) ≡ tokens true (o + n) (drop n text)
+-- the blanks that a text begins with may stand there, where `loose` says that a joint stands before them
+abbrev pub may_stand : List ℕ → Bool → Bool
+may_stand bs loose = prefix_len blank bs == 0 || (loose || joint_ahead bs)
+
+-- the first index from a cursor on that has no blank, if the blanks before it may stand there
+abbrev pub past_blanks_lem : List ℕ → Cursor → Option ℕ
+past_blanks_lem text c =
+    cond (may_stand (drop c.at text) c.loose) (Some (c.at + prefix_len blank (drop c.at text))) None

@@ -1,7 +1,8 @@
-ghost use Rattle.std.specs.Prelude.{◌≡◌, ℕ, ◌+◌, ◌^◌, ◌<◌, ◌≤◌, Bool, true, false, ◌&&◌, ◌||◌, length, drop, nat_le, slice_index};
+ghost use Rattle.std.specs.Prelude.{◌≡◌, ◌+◌, ◌^◌, ◌<◌, ◌&&◌, length, not, find};
+ghost use Rattle.std.specs.List.{prefix_len};
 ghost use Rattle.digit_map.specs.Bytes.{blank, joint, field_letter};
 ghost use Rattle.digit_map.specs.Tokens.{joint_ahead, colon_ahead, Next};
-ghost use Rattle.digit_map.specs.Skips.{Skipped};
+ghost use Rattle.digit_map.specs.Skips.{past_blanks_lem};
 ghost use Rattle.digit_map.specs.Readers.{SamePart};
 
 use crate::reader::Reader;
@@ -25,49 +26,39 @@ fn is_field_letter(byte: u8) -> bool
     matches!(byte, b'T' | b't' | b'S' | b's' | b'L' | b'l' | b'Z' | b'z')
 }
 
-// The first index from `from` on that has no blank.
-fn skip(text: &[u8], from: usize) -> usize
-    requires { from ≤ length text.now }
-    ensures { Skipped text.now from result }
+// How many blanks a text begins with.
+fn leading_blanks(text: &[u8]) -> usize
+    ensures { result ≡ prefix_len blank text.now }
 {
-    let mut i = from;
-    while i < text.len() && is_blank(text[i]) {
-        i += 1;
-    }
-    i
+    text.iter().take_while(|byte| is_blank(**byte)).count()
 }
 
-// Whether a joint stands at `n`, where no blank stands.
-fn joint_at(text: &[u8], n: usize) -> bool
-    requires { n < length text.now → blank (slice_index text.now n) ≡ false }
-    ensures { result ≡ joint_ahead (drop n text.now) }
+// The first byte that is no blank.
+fn first_solid(text: &[u8]) -> Option<u8>
+    ensures { result ≡ find (λ b. not (blank b)) text.now }
 {
-    n < text.len() && is_joint(text[n])
+    text.iter().copied().find(|byte| !is_blank(*byte))
 }
 
-// Whether a colon is the next byte from `from` on that is no blank.
-fn colon_next(text: &[u8], from: usize) -> bool
-    requires { from ≤ length text.now }
-    ensures { result ≡ colon_ahead (drop from text.now) }
+// Whether a joint is the first byte that is no blank.
+fn joint_next(text: &[u8]) -> bool
+    ensures { result ≡ joint_ahead text.now }
 {
-    let n = skip(text, from);
-    n < text.len() && text[n] == b':'
+    first_solid(text).is_some_and(|byte| is_joint(byte))
 }
 
-// Whether the byte at `n` begins a head field.
-fn begins_field(text: &[u8], n: usize) -> bool
-    requires { n < length text.now }
-    ensures { result ≡ (field_letter (slice_index text.now n) && colon_ahead (drop (n + 1) text.now)) }
+// Whether a colon is.
+fn colon_next(text: &[u8]) -> bool
+    ensures { result ≡ colon_ahead text.now }
 {
-    is_field_letter(text[n]) && colon_next(text, n + 1)
+    first_solid(text).is_some_and(|byte| byte == b':')
 }
 
-// Whether the blanks from a cursor to `n`, where none stands, may stand there, if there are any.
-fn may_stand(text: &[u8], cursor: Cursor, n: usize) -> bool
-    requires { n < length text.now → blank (slice_index text.now n) ≡ false }
-    ensures { result ≡ (nat_le n cursor.at || (cursor.loose || joint_ahead (drop n text.now))) }
+// Whether a byte begins a head field, with the text behind it.
+fn begins_field(byte: u8, behind: &[u8]) -> bool
+    ensures { result ≡ (field_letter byte && colon_ahead behind.now) }
 {
-    n <= cursor.at || cursor.loose || joint_at(text, n)
+    is_field_letter(byte) && colon_next(behind)
 }
 
 impl<'a> Reader<'a> {
@@ -82,27 +73,36 @@ impl<'a> Reader<'a> {
         Reader { text, base, cursor }
     }
 
+    // The first index from the cursor on that has no blank, if the blanks before it may stand there.
+    fn past_blanks(&self) -> Option<usize>
+        ensures { result ≡ past_blanks_lem self.now.text.now self.now.cursor }
+    {
+        let Cursor { at, loose } = self.cursor;
+        let rest = &self.text[at..];
+        let blanks = leading_blanks(rest);
+        (blanks == 0 || loose || joint_next(rest)).then_some(at + blanks)
+    }
+
     // The next token, and the reader behind it.
     pub(crate) fn next(&mut self) -> Token
         ensures same { SamePart self.old self.new }
         ensures reads { Next self.old.text.now self.old.base self.old.cursor result self.new.cursor }
     {
-        let cursor = self.cursor;
-        let n = skip(self.text, cursor.at);
-        if !may_stand(self.text, cursor, n) {
-            return Token::Gap(self.base + cursor.at);
-        }
-        if n >= self.text.len() {
+        let Some(n) = self.past_blanks() else {
+            return Token::Gap(self.base + self.cursor.at);
+        };
+        let Some(&byte) = self.text.get(n) else {
             self.cursor = Cursor {
                 at: n,
                 loose: false,
             };
             return Token::End(self.base + n);
-        }
+        };
+        let field = begins_field(byte, &self.text[n + 1..]);
         self.cursor = Cursor {
             at: n + 1,
-            loose: is_joint(self.text[n]),
+            loose: is_joint(byte),
         };
-        Token::Byte(self.text[n], begins_field(self.text, n), self.base + n)
+        Token::Byte(byte, field, self.base + n)
     }
 }

@@ -1,14 +1,8 @@
-use Rattle.std.proofs.Common.{sym, ◌∙◌}
-use Rattle.std.proofs.lemmas.Bool.{le-ltb}
-use Rattle.digit_map.proofs.Gaps.{colon_here, colon_none}
+use Rattle.std.proofs.Common.{eqb, ap, ◌∙◌, rules}
+use Rattle.digit_map.proofs.Gaps.{by_solid, some_and, colon_solid}
 use Rattle.digit_map.proofs.blank.colon_next.Goals as goal
 
-pub returns-then-n-text : goal.returns-then-n-text
-returns-then-n-text c =
-    let h = c.if-n-text.true in
-    sym (c.skip-n.ensures.colon ∙ colon_here _ _ h (c.skip-n.ensures.stops h))
-
-pub returns-else-n-text : goal.returns-else-n-text
-returns-else-n-text c =
-    let h = c.if-n-text.false in
-    le-ltb _ _ h ∙ sym (c.skip-n.ensures.colon ∙ colon_none _ _ h)
+pub returns : goal.returns
+returns c =
+    some_and (λ b. eqb b 58) _ _ c.first_solid.result c.is_some_and.ensures (λ b q. search rules)
+    ∙ (ap (by_solid (λ b. eqb b 58)) c.first_solid.ensures ∙ colon_solid c.args.text.now)
