@@ -1,5 +1,5 @@
 -- A fault that shows stops the reader, at a fault that comes before it. Assumes nothing.
-use Rattle.std.proofs.Common.{◌≡◌, ℕ, ◌<◌, ◌≤◌, Bool, true, false, not, eqb, leb, ◌⊎◌, List, [], ◌∷◌, ◌++◌, sym, refl, ap, ◌∙◌, subst, inl, inr, append_assoc, arith, lit<}
+use Rattle.std.proofs.Common.{◌≡◌, ℕ, ◌<◌, ◌≤◌, Bool, true, false, not, eqb, leb, ◌⊎◌, List, [], ◌∷◌, ◌++◌, sym, refl, ap, ◌∙◌, subst, inl, inr, append_assoc, arith, lit<, Some, None, Option}
 use Rattle.std.proofs.lemmas.Bool.Decides.{nat_tests}
 use Rattle.std.proofs.lemmas.Bool.{cond-true, cond-false, lt-leb, le-ltb, and_left, and_right, cases_lt, not_from_false}
 use Rattle.keypad.specs.declared.timers.Timers.{Timers}
@@ -80,14 +80,14 @@ no_comma : (b : ℕ) → field_letter b ≡ true → eqb b 44 ≡ false
 no_comma b e = grind (arith, nat_tests)
 
 -- a letter that begins a field does not go on with another
-letter_breaks : (i : Field) (d : Digits) (b : ℕ) → field_letter b ≡ true → field_turn i d b ≡ field.Bad
+letter_breaks : (i : Field) (d : Digits) (b : ℕ) → field_letter b ≡ true → field_turn i d b ≡ None
 letter_breaks i Letter b e = cond-false _ _ _ (no_colon b e)
 letter_breaks i Colon b e = cond-false _ _ _ (no_digit b e)
 letter_breaks i (One d) b e = cond-false _ _ _ (and_left _ _ (no_digit b e))
     ∙ cond-false _ _ _ (and_left _ _ (no_comma b e))
 letter_breaks i (Two v) b e = cond-false _ _ _ (no_comma b e)
 
-dot_breaks : (i : Field) (d : Digits) → field_turn i d 46 ≡ field.Bad
+dot_breaks : (i : Field) (d : Digits) → field_turn i d 46 ≡ None
 dot_breaks i Letter = refl
 dot_breaks i Colon = refl
 dot_breaks i (One d) = refl
@@ -140,18 +140,18 @@ stopped (on w) l b = absurd (b.no_place w l)
 stopped (done t ns) l b = absurd (b.no_map t ns l)
 stopped (bad f) l b = (f, refl)
 
-field_fault : (t : Timers) (i : Field) (at : ℕ) (y : FieldTurn) (f : Fault) → fielded t i at y ≡ bad f →
+field_fault : (t : Timers) (i : Field) (at : ℕ) (y : Option FieldTurn) (f : Fault) → fielded t i at y ≡ bad f →
     fielded t i at y ≡ bad (fault cause.Head at 0)
-field_fault t i at (field.On d) f e = let z : ◌≡◌ {A = ℕ} 0 1 = cc in absurd (omega arith)
-field_fault t i at (field.Done v) f e = let z : ◌≡◌ {A = ℕ} 0 1 = cc in absurd (omega arith)
-field_fault t i at field.Bad f e = refl
+field_fault t i at (Some (field.On d)) f e = let z : ◌≡◌ {A = ℕ} 0 1 = cc in absurd (omega arith)
+field_fault t i at (Some (field.Done v)) f e = let z : ◌≡◌ {A = ℕ} 0 1 = cc in absurd (omega arith)
+field_fault t i at None f e = refl
 
-set_fault : (t : Timers) (ns : List Node) (f : Frame) (r : Progress) (l : Bool) (at : ℕ) (y : SetTurn)
+set_fault : (t : Timers) (ns : List Node) (f : Frame) (r : Progress) (l : Bool) (at : ℕ) (y : Option SetTurn)
     (d : Fault) → in_set_turned t ns f r l at y ≡ bad d →
     in_set_turned t ns f r l at y ≡ bad (fault cause.Set at f.number)
-set_fault t ns f r l at (set.On q k) d e = let z : ◌≡◌ {A = ℕ} 0 1 = cc in absurd (omega arith)
-set_fault t ns f r l at (set.Done k) d e = let z : ◌≡◌ {A = ℕ} 0 1 = cc in absurd (omega arith)
-set_fault t ns f r l at set.Bad d e = refl
+set_fault t ns f r l at (Some (set.On q k)) d e = let z : ◌≡◌ {A = ℕ} 0 1 = cc in absurd (omega arith)
+set_fault t ns f r l at (Some (set.Done k)) d e = let z : ◌≡◌ {A = ℕ} 0 1 = cc in absurd (omega arith)
+set_fault t ns f r l at None d e = refl
 
 -- a token of a sign in an alternative
 module _ (t : Timers) (ns : List Node) (f : Frame) (r : Progress) where

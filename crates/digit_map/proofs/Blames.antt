@@ -1,5 +1,5 @@
 -- A token that the reader stops at shows the fault that it answers. Assumes nothing.
-use Rattle.std.proofs.Common.{◌≡◌, ℕ, Bool, true, false, cond, not, ◌&&◌, ltb, leb, ◌⊎◌, List, [], ◌∷◌, ◌++◌, sym, refl, ap, ◌∙◌, subst, inl, inr, ⊎_elim, arith}
+use Rattle.std.proofs.Common.{◌≡◌, ℕ, Bool, true, false, cond, not, ◌&&◌, ltb, leb, ◌⊎◌, List, [], ◌∷◌, ◌++◌, sym, refl, ap, ◌∙◌, subst, inl, inr, ⊎_elim, arith, Some, None, Option}
 use Rattle.std.proofs.lemmas.Bool.{cond_both, leb-false, ltb-false, and_cases, and_parts, not-true}
 use Rattle.keypad.specs.declared.timers.Timers.{Timers}
 use Rattle.digit_map.specs.declared.fault.Cause.TheVariants as cause
@@ -218,20 +218,20 @@ module _ (p : List Token) (x : Token) where
   closed_ruled t ns n sign.End e = tt
   closed_ruled t ns n sign.Other e = inr refl
 
-  field_ruled : (t : Timers) (i : Field) (at : ℕ) (d : Digits) → Solid x → (y : FieldTurn) →
+  field_ruled : (t : Timers) (i : Field) (at : ℕ) (d : Digits) → Solid x → (y : Option FieldTurn) →
       (fielded t i at y ≡ bad (fault cause.Head at 0) → Barred p x) →
       Ruled (state t [] (in_field i at d)) (fielded t i at y)
-  field_ruled t i at d h (field.On e) b = tt
-  field_ruled t i at d h (field.Done v) b = tt
-  field_ruled t i at d h field.Bad b = inl (field_broken at refl h (b refl))
+  field_ruled t i at d h (Some (field.On e)) b = tt
+  field_ruled t i at d h (Some (field.Done v)) b = tt
+  field_ruled t i at d h None b = inl (field_broken at refl h (b refl))
 
   set_ruled : (t : Timers) (ns : List Node) (f : Frame) (r : Progress) (l : Bool) (at : ℕ) (q : Place)
-      (k : ℕ) → Solid x → (y : SetTurn) →
+      (k : ℕ) → Solid x → (y : Option SetTurn) →
       (in_set_turned t ns f r l at y ≡ bad (fault cause.Set at f.number) → Barred p x) →
       Ruled (state t ns (in_set f r l at q k)) (in_set_turned t ns f r l at y)
-  set_ruled t ns f r l at q k h (set.On w j) b = tt
-  set_ruled t ns f r l at q k h (set.Done j) b = tt
-  set_ruled t ns f r l at q k h set.Bad b = inl (set_broken at refl h (b refl))
+  set_ruled t ns f r l at q k h (Some (set.On w j)) b = tt
+  set_ruled t ns f r l at q k h (Some (set.Done j)) b = tt
+  set_ruled t ns f r l at q k h None b = inl (set_broken at refl h (b refl))
 
 ruled_by : {p : List Token} {q : State} → Stands p q → (x : Token) →
     ((f : Fault) → turn sale q x ≡ bad f → Barred p x) → Ruled p x q (turn sale q x)

@@ -1,5 +1,5 @@
 -- What a token in a head field leads to. Assumes nothing.
-use Rattle.std.proofs.Common.{ℕ, ◌+◌, ◌-◌, ◌*◌, ◌≤◌, Bool, ◌&&◌, eqb, List, [], ◌∷◌, ◌++◌, sym, subst}
+use Rattle.std.proofs.Common.{ℕ, ◌+◌, ◌-◌, ◌*◌, ◌≤◌, Bool, ◌&&◌, eqb, List, [], ◌∷◌, ◌++◌, sym, subst, Some, Option}
 use Rattle.std.proofs.lemmas.Bool.{cond_both, eqb-true, and_parts}
 use Rattle.keypad.specs.declared.timers.Timers.{Timers}
 use Rattle.digit_map.specs.declared.sign.Field.{Field}
@@ -19,13 +19,13 @@ use Rattle.digit_map.proofs.Leads.{Leads, regroup}
 
 module _ (L : Limits) {s : List Token} {t : Timers} {k : ℕ} (head : Head s t k) (i : Field)
     (low : k ≤ rank i) (at b : ℕ) (c : Bool) (o : ℕ) where
-  abbrev Good : List Token → FieldTurn → Type 0
+  abbrev Good : List Token → Option FieldTurn → Type 0
   Good u x = Leads L (s ++ u) (Byte b c o) (fielded t i at x)
 
-  goes_on : (u : List Token) {d : Digits} → Begun (u ++ Byte b c o ∷ []) i at d → Good u (turned.On d)
+  goes_on : (u : List Token) {d : Digits} → Begun (u ++ Byte b c o ∷ []) i at d → Good u (Some (turned.On d))
   goes_on u y = regroup L s u (Byte b c o) (in_a_field head low y) tt
 
-  ends : (u : List Token) {v : ℕ} → FieldText (u ++ Byte b c o ∷ []) i v → Good u (turned.Done v)
+  ends : (u : List Token) {v : ℕ} → FieldText (u ++ Byte b c o ∷ []) i v → Good u (Some (turned.Done v))
   ends u y = regroup L s u (Byte b c o) (in_the_head (field head y low)) tt
 
   pub field_leads : {u : List Token} {d : Digits} → Begun u i at d → Good u (field_turn i d b)

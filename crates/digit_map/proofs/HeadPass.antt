@@ -1,5 +1,5 @@
 -- A head is taken as the grammar has it. Assumes nothing.
-use Rattle.std.proofs.Common.{◌≡◌, ℕ, ◌+◌, ◌-◌, ◌*◌, ◌≤◌, true, List, [], refl, ap, ◌∙◌}
+use Rattle.std.proofs.Common.{◌≡◌, ℕ, ◌+◌, ◌-◌, ◌*◌, ◌≤◌, true, List, [], refl, ap, ◌∙◌, Some}
 use Rattle.std.proofs.lemmas.Bool.{cond-true, le-leb, and_from}
 use Rattle.keypad.specs.declared.timers.Timers.{Timers}
 use Rattle.digit_map.specs.declared.sign.Field.{Field}
@@ -16,14 +16,14 @@ use Rattle.digit_map.specs.Grammar.{Begun, letter, colon, one, two, FieldText, s
 use Rattle.digit_map.proofs.Runs.{run_on, run_step, run_chain}
 
 one_turn : (i : Field) (b : ℕ) → digit b ≡ true → field_turn i digits.Colon b
-    ≡ turned.On (digits.One (b - 48))
+    ≡ Some (turned.On (digits.One (b - 48)))
 one_turn i b e = cond-true _ _ _ e
 
 two_turn : (i : Field) (d b : ℕ) → digit b ≡ true → fits i (10 * d + (b - 48)) ≡ true →
-    field_turn i (digits.One d) b ≡ turned.On (digits.Two (10 * d + (b - 48)))
+    field_turn i (digits.One d) b ≡ Some (turned.On (digits.Two (10 * d + (b - 48))))
 two_turn i d b e f = cond-true _ _ _ (and_from (digit b) (fits i (10 * d + (b - 48))) e f)
 
-comma_turn : (i : Field) (d : ℕ) → fits i d ≡ true → field_turn i (digits.One d) 44 ≡ turned.Done d
+comma_turn : (i : Field) (d : ℕ) → fits i d ≡ true → field_turn i (digits.One d) 44 ≡ Some (turned.Done d)
 comma_turn i d e = cond-true _ _ _ e
 
 module _ (L : Limits) (t : Timers) (k : ℕ) where

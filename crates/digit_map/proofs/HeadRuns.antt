@@ -1,5 +1,5 @@
 -- The run over a head and its fields, byte by byte. Assumes nothing.
-use Rattle.std.proofs.Common.{◌≡◌, ℕ, ◌+◌, ◌<◌, ◌≤◌, false, ltb, List, [], ◌∷◌, length, drop, Some, None, Ok, Err, sym, refl, ap, ◌∙◌, arith}
+use Rattle.std.proofs.Common.{◌≡◌, ℕ, ◌+◌, ◌<◌, ◌≤◌, false, ltb, List, [], ◌∷◌, length, drop, Some, None, Ok, Err, sym, refl, ap, ◌∙◌, arith, Option}
 use Rattle.std.proofs.lemmas.Bool.{lt-ltb}
 use Rattle.std.proofs.lemmas.Bool.Decides.{nat_tests}
 use Rattle.keypad.specs.declared.timers.Timers.{Timers}
@@ -15,7 +15,7 @@ use Rattle.digit_map.specs.declared.sign.Sign.TheVariants as sign
 use Rattle.digit_map.specs.declared.head.Digits.{Digits}
 use Rattle.digit_map.specs.declared.head.Digits.TheVariants.{Letter, Colon, One, Two}
 use Rattle.digit_map.specs.declared.head.FieldTurn.{FieldTurn}
-use Rattle.digit_map.specs.declared.head.FieldTurn.TheVariants.{On, Done, Bad}
+use Rattle.digit_map.specs.declared.head.FieldTurn.TheVariants.{On, Done}
 use Rattle.digit_map.specs.Faults.{fault}
 use Rattle.digit_map.specs.Bytes.{joint}
 use Rattle.digit_map.specs.Signs.{sign_of}
@@ -51,7 +51,7 @@ pub record FieldUpTo (text : List ℕ) (base : ℕ) (c : Cursor) (i : Field) (at
   pub is : Gives text base c i at (λ t. run sale (state t [] (in_field i at d)) (rest text base b))
 
 -- a field ends with a comma
-done_comma : (i : Field) (d : Digits) (y v : ℕ) → Done v ≡ field_turn i d y → y ≡ 44
+done_comma : (i : Field) (d : Digits) (y v : ℕ) → Some (Done v) ≡ field_turn i d y → y ≡ 44
 done_comma i Letter y v e = grind (arith, nat_tests)
 done_comma i Colon y v e = grind (arith, nat_tests)
 done_comma i (One x) y v e = grind (arith, nat_tests)
@@ -68,29 +68,29 @@ module _ {text : List ℕ} {base : ℕ} {c : Cursor} {i : Field} {at : ℕ} {b :
       taken t ∙ ap (λ (r : Turn). went sale r (behind text base x after)) (by_byte_err 1 _ _ x e g)
 
   module _ {y : ℕ} (g : Ok y ≡ byte_at 1 (fault cause.Head at 0) x) where
-    turned : (s : FieldTurn) → s ≡ field_turn i d y
+    turned : (s : Option FieldTurn) → s ≡ field_turn i d y
         → Gives text base c i at (λ t. went sale (fielded t i at s) (rest text base after))
     turned s e t =
         taken t
         ∙ (went_byte text base after sale 1 _ y _ x g
-        ∙ ap (λ (r : FieldTurn). went sale (fielded t i at r) (rest text base after)) (sym e))
+        ∙ ap (λ (r : Option FieldTurn). went sale (fielded t i at r) (rest text base after)) (sym e))
 
     moved : b.at < after.at
     moved = byte_moves 1 _ y _ _ x g next.moves
 
-    pub field_on : {r : Digits} → On r ≡ field_turn i d y → SoundDigits r → FieldUpTo text base c i at after r
+    pub field_on : {r : Digits} → Some (On r) ≡ field_turn i d y → SoundDigits r → FieldUpTo text base c i at after r
     field_on {r} e h =
         let l = u.low in let v = moved in
-        record { low = omega arith; high = next.high; sound = h; is = turned (On r) e }
+        record { low = omega arith; high = next.high; sound = h; is = turned (Some (On r)) e }
 
-    pub field_done : {v : ℕ} → Done v ≡ field_turn i d y → v < 100 → FieldRead text base c i at (Ok (v, after))
+    pub field_done : {v : ℕ} → Some (Done v) ≡ field_turn i d y → v < 100 → FieldRead text base c i at (Ok (v, after))
     field_done {v} e h =
         let l = u.low in let m = moved in
         let j = byte_loosens 1 _ y _ x g next.loosens in
-        (omega arith, next.high, j ∙ ap joint (done_comma i d y v e), h, turned (Done v) e)
+        (omega arith, next.high, j ∙ ap joint (done_comma i d y v e), h, turned (Some (Done v)) e)
 
-    pub field_bad : Bad ≡ field_turn i d y → FieldRead text base c i at (Err (fault cause.Head at 0))
-    field_bad e = turned Bad e
+    pub field_bad : None ≡ field_turn i d y → FieldRead text base c i at (Err (fault cause.Head at 0))
+    field_bad e = turned None e
 
 -- no field may begin: the same sign behind the last one
 sign_ends : (t : Timers) (k o : ℕ) (s : Sign) → None ≡ field_sign k o s

@@ -1,5 +1,5 @@
 -- A letter T, S, L or Z begins a field where what finishes the text has a colon next. Assumes nothing.
-use Rattle.std.proofs.Common.{◌≡◌, ℕ, ◌+◌, Bool, true, false, ◌&&◌, ◌||◌, eqb, leb, List, [], ◌∷◌, ◌++◌, sym, refl, ap, ◌∙◌, subst, ⊎_elim, arith}
+use Rattle.std.proofs.Common.{◌≡◌, ℕ, ◌+◌, Bool, true, false, ◌&&◌, ◌||◌, eqb, leb, List, [], ◌∷◌, ◌++◌, sym, refl, ap, ◌∙◌, subst, ⊎_elim, arith, None}
 use Rattle.std.proofs.lemmas.Bool.{cond_both, cond-false, eqb-true, or_cases}
 use Rattle.keypad.specs.declared.timers.Timers.{Timers}
 use Rattle.digit_map.specs.declared.fault.Cause.TheVariants as cause
@@ -11,10 +11,8 @@ use Rattle.digit_map.specs.declared.token.Token.TheVariants.{Byte, Gap, End}
 use Rattle.digit_map.specs.declared.node.Node.{Node}
 use Rattle.digit_map.specs.declared.set.Place.{Place}
 use Rattle.digit_map.specs.declared.set.Place.TheVariants as place
-use Rattle.digit_map.specs.declared.set.SetTurn.TheVariants as set
 use Rattle.digit_map.specs.declared.head.Digits.{Digits}
 use Rattle.digit_map.specs.declared.head.Digits.TheVariants as digits
-use Rattle.digit_map.specs.declared.head.FieldTurn.TheVariants as turned
 use Rattle.digit_map.specs.declared.progress.Progress.{Progress}
 use Rattle.digit_map.specs.declared.progress.Frame.{Frame}
 use Rattle.digit_map.specs.declared.progress.Act.{Act}
@@ -76,25 +74,25 @@ letter_sign true = each_letter (λ b. Fitting true (sign_of b true)) refl refl r
 letter_sign false = each_letter (λ b. Fitting false (sign_of b false)) refl refl refl refl refl refl refl refl
 
 -- no field and no set goes on with one
-field_stops : (i : Field) (d : Digits) (b : ℕ) → field_letter b ≡ true → field_turn i d b ≡ turned.Bad
+field_stops : (i : Field) (d : Digits) (b : ℕ) → field_letter b ≡ true → field_turn i d b ≡ None
 field_stops i digits.Letter =
-    each_letter (λ b. field_turn i digits.Letter b ≡ turned.Bad) refl refl refl refl refl refl refl refl
+    each_letter (λ b. field_turn i digits.Letter b ≡ None) refl refl refl refl refl refl refl refl
 field_stops i digits.Colon =
-    each_letter (λ b. field_turn i digits.Colon b ≡ turned.Bad) refl refl refl refl refl refl refl refl
+    each_letter (λ b. field_turn i digits.Colon b ≡ None) refl refl refl refl refl refl refl refl
 field_stops i (digits.One d) =
-    each_letter (λ b. field_turn i (digits.One d) b ≡ turned.Bad) refl refl refl refl refl refl refl refl
+    each_letter (λ b. field_turn i (digits.One d) b ≡ None) refl refl refl refl refl refl refl refl
 field_stops i (digits.Two v) =
-    each_letter (λ b. field_turn i (digits.Two v) b ≡ turned.Bad) refl refl refl refl refl refl refl refl
+    each_letter (λ b. field_turn i (digits.Two v) b ≡ None) refl refl refl refl refl refl refl refl
 
-set_stops : (q : Place) (k b : ℕ) → field_letter b ≡ true → set_turn q k b ≡ set.Bad
+set_stops : (q : Place) (k b : ℕ) → field_letter b ≡ true → set_turn q k b ≡ None
 set_stops place.Start k =
-    each_letter (λ b. set_turn place.Start k b ≡ set.Bad) refl refl refl refl refl refl refl refl
+    each_letter (λ b. set_turn place.Start k b ≡ None) refl refl refl refl refl refl refl refl
 set_stops place.Member k =
-    each_letter (λ b. set_turn place.Member k b ≡ set.Bad) refl refl refl refl refl refl refl refl
+    each_letter (λ b. set_turn place.Member k b ≡ None) refl refl refl refl refl refl refl refl
 set_stops (place.Digit d) k =
-    each_letter (λ b. set_turn (place.Digit d) k b ≡ set.Bad) refl refl refl refl refl refl refl refl
+    each_letter (λ b. set_turn (place.Digit d) k b ≡ None) refl refl refl refl refl refl refl refl
 set_stops (place.From d) k =
-    each_letter (λ b. set_turn (place.From d) k b ≡ set.Bad) refl refl refl refl refl refl refl refl
+    each_letter (λ b. set_turn (place.From d) k b ≡ None) refl refl refl refl refl refl refl refl
 
 -- where a token leads on, what finishes the text goes on with a colon or not
 abbrev Colons : Bool → Turn → Type 0

@@ -1,5 +1,5 @@
 -- Tokens are read alike wherever they stand: offsets decide nothing but what a fault tells. Assumes nothing.
-use Rattle.std.proofs.Common.{◌≡◌, ℕ, Bool, true, false, cond, not, ◌&&◌, leb, List, [], ◌∷◌, ◌++◌, sym, refl, ap, ◌∙◌, arith}
+use Rattle.std.proofs.Common.{◌≡◌, ℕ, Bool, true, false, cond, not, ◌&&◌, leb, List, [], ◌∷◌, ◌++◌, sym, refl, ap, ◌∙◌, arith, Some, None, Option}
 use Rattle.keypad.specs.declared.key.Mark.{Mark}
 use Rattle.keypad.specs.declared.timers.Timers.{Timers}
 use Rattle.digit_map.specs.declared.fault.Cause.{Cause}
@@ -205,11 +205,11 @@ module _ (t : Timers) (ns : List Node) where
   closed_bare n o sign.End = refl
   closed_bare n o sign.Other = refl
 
-fielded_bare : (t : Timers) (i : Field) (at : ℕ) (x : FieldTurn) →
+fielded_bare : (t : Timers) (i : Field) (at : ℕ) (x : Option FieldTurn) →
     fielded t i 0 x ≡ bare_turn (fielded t i at x)
-fielded_bare t i at (field.On d) = refl
-fielded_bare t i at (field.Done v) = refl
-fielded_bare t i at field.Bad = refl
+fielded_bare t i at (Some (field.On d)) = refl
+fielded_bare t i at (Some (field.Done v)) = refl
+fielded_bare t i at None = refl
 
 done_bare : (t : Timers) (ns : List Node) (x : Turn) → bare_turn x ≡ done t ns → x ≡ done t ns
 done_bare t ns (on q) e = let z : ◌≡◌ {A = ℕ} 0 1 = cc in absurd (omega arith)
@@ -233,14 +233,14 @@ module _ (L : Limits) where
         ap (acted t ns f (bare_progress p) s 0) (acts_bare L f (count_positions ns) p o s)
         ∙ acted_bare s o (acts L f (count_positions ns) p s o)
 
-    set_bare : (l : Bool) (at : ℕ) (x : SetTurn) →
+    set_bare : (l : Bool) (at : ℕ) (x : Option SetTurn) →
         in_set_turned t ns f (bare_progress p) l 0 x ≡ bare_turn (in_set_turned t ns f p l at x)
-    set_bare l at (set.On q k) = refl
-    set_bare l at (set.Done k) =
+    set_bare l at (Some (set.On q k)) = refl
+    set_bare l at (Some (set.Done k)) =
         let x : Node = awaiting (position k l false) p.mark p.marked in
         ap (λ w. on (state t (ns ++ x ∷ []) (in_alternative f w)))
         (onward_bare p at p.mark false last.Position)
-    set_bare l at set.Bad = refl
+    set_bare l at None = refl
 
   head_bare : (t : Timers) (k o : ℕ) (s : Sign) → turn_head L t k s 0 ≡ bare_turn (turn_head L t k s o)
   head_bare t k o (sign.Keys m) = alternative_bare t [] (frame false 1) fresh (sign.Keys m) o

@@ -1,5 +1,5 @@
 -- What a token inside a set leads to. Assumes nothing.
-use Rattle.std.proofs.Common.{◌≡◌, ℕ, ◌-◌, ◌<◌, ◌≤◌, Bool, true, false, ◌&&◌, eqb, leb, List, [], ◌∷◌, ◌++◌, sym, refl, ap, ◌∙◌, subst, append_assoc, arith}
+use Rattle.std.proofs.Common.{◌≡◌, ℕ, ◌-◌, ◌<◌, ◌≤◌, Bool, true, false, ◌&&◌, eqb, leb, List, [], ◌∷◌, ◌++◌, sym, refl, ap, ◌∙◌, subst, append_assoc, arith, Some, None, Option}
 use lib.Bits.{bit_or}
 use Rattle.std.proofs.lemmas.Bool.Decides.{nat_tests}
 use Rattle.std.proofs.lemmas.Bool.{cond_both, eqb-true, and_parts}
@@ -12,7 +12,7 @@ use Rattle.digit_map.specs.declared.progress.Progress.{Progress}
 use Rattle.digit_map.specs.declared.set.Place.{Place}
 use Rattle.digit_map.specs.declared.set.Place.TheVariants.{Member, From}
 use Rattle.digit_map.specs.declared.set.SetTurn.{SetTurn}
-use Rattle.digit_map.specs.declared.set.SetTurn.TheVariants.{On, Done, Bad}
+use Rattle.digit_map.specs.declared.set.SetTurn.TheVariants.{On, Done}
 use Rattle.digit_map.specs.Bytes.{digit, key_letter_lem}
 use Rattle.digit_map.specs.Nodes.{position, awaiting, count_positions}
 use Rattle.digit_map.specs.Sets.{span, set_turn, at_member}
@@ -46,11 +46,11 @@ module _ (L : Limits) {s u : List Token} {t : Timers} {bracketed l : Bool} {n : 
     (front : Front s t bracketed n ns) (read : Read u us l p) (few : n ≤ L.alternatives)
     (room : count_positions (ns ++ us) < L.positions)
     (d : Bool) (at b : ℕ) (c : Bool) (o : ℕ) where
-  abbrev Good : List Token → SetTurn → Type 0
+  abbrev Good : List Token → Option SetTurn → Type 0
   Good v x = Leads L (s ++ (u ++ Byte 91 d at ∷ v)) (Byte b c o)
       (in_set_turned t (ns ++ us) (frame bracketed n) p l at x)
 
-  goes_on : (v : List Token) {q : Place} {k : ℕ} → Inside (v ++ Byte b c o ∷ []) q k → Good v (On q k)
+  goes_on : (v : List Token) {q : Place} {k : ℕ} → Inside (v ++ Byte b c o ∷ []) q k → Good v (Some (On q k))
   goes_on v {q = q} {k = k} x =
       regroup L s (u ++ Byte 91 d at ∷ v) (Byte b c o)
       (subst (λ w. Stands (s ++ w) (state t (ns ++ us) (in_set (frame bracketed n) p l at q k)))
@@ -64,7 +64,7 @@ module _ (L : Limits) {s u : List Token} {t : Timers} {bracketed l : Bool} {n : 
   state_behind k = state t ((ns ++ us) ++ awaiting (position k l false) p.mark p.marked ∷ [])
       (in_alternative (frame bracketed n) (onward p at p.mark false last.Position))
 
-  closes : (v : List Token) {k : ℕ} → Closes v k → eqb b 93 ≡ true → Good v (Done k)
+  closes : (v : List Token) {k : ℕ} → Closes v k → eqb b 93 ≡ true → Good v (Some (Done k))
   closes v {k = k} x e =
       let w : Byte 91 d at ∷ ((x.front ++ x.last) ++ Byte 93 c o ∷ [])
       ≡ (Byte 91 d at ∷ v) ++ Byte b c o ∷ [] =
@@ -78,7 +78,7 @@ module _ (L : Limits) {s u : List Token} {t : Timers} {bracketed l : Bool} {n : 
       (few, one_more (awaiting (position k l false) p.mark p.marked) refl)
 
   -- where a member may begin
-  member_leads : {v : List Token} {m : ℕ} → Members v m → (close : SetTurn) →
+  member_leads : {v : List Token} {m : ℕ} → Members v m → (close : Option SetTurn) →
       (eqb b 93 ≡ true → Good v close) → Good v (at_member m b close)
   member_leads {v = v} {m = m} ms close h =
       cond_both (digit b) _ _ (Good v) (λ e. goes_on v (st.digit_more ms b c o e))
@@ -89,12 +89,12 @@ module _ (L : Limits) {s u : List Token} {t : Timers} {bracketed l : Bool} {n : 
   reaches a x e = grind (arith, nat_tests)
 
   pub set_leads : {v : List Token} {q : Place} {k : ℕ} → Inside v q k → Good v (set_turn q k b)
-  set_leads st.start = member_leads none Bad (λ _. tt)
+  set_leads st.start = member_leads none None (λ _. tt)
   set_leads (st.letter {s = v} ms a e w x) =
-      member_leads (more ms (one_letter a e w x)) (Done _)
+      member_leads (more ms (one_letter a e w x)) (Some (Done _))
       (closes (v ++ Byte a e w ∷ []) (closed_by ms (one_letter a e w x)))
   set_leads (st.range {s = v} ms a e w f y i j z x h le) =
-      member_leads (more ms (g.range a e w f y i j z x h le)) (Done _)
+      member_leads (more ms (g.range a e w f y i j z x h le)) (Some (Done _))
       (closes (v ++ Byte a e w ∷ Byte 45 f y ∷ Byte i j z ∷ [])
       (closed_by ms (g.range a e w f y i j z x h le)))
   set_leads (st.digit_more {s = v} {m = m} ms a e w x) =
@@ -103,7 +103,7 @@ module _ (L : Limits) {s u : List Token} {t : Timers} {bracketed l : Bool} {n : 
       (subst (λ z. Inside z (From (a - 48)) m) (sym (append_assoc v (Byte a e w ∷ []) (Byte b c o ∷ [])))
       (subst (λ z. Inside (v ++ Byte a e w ∷ Byte z c o ∷ []) (From (a - 48)) m) (sym (eqb-true b 45 h))
       (st.hyphen ms a e w x c o))))
-      (λ _. member_leads (more ms (one_digit a e w x)) (Done _)
+      (λ _. member_leads (more ms (one_digit a e w x)) (Some (Done _))
       (closes (v ++ Byte a e w ∷ []) (closed_by ms (one_digit a e w x))))
   set_leads (st.hyphen {s = v} {m = m} ms a e w x f y) =
       cond_both (digit b && leb (a - 48) (b - 48)) _ _ (Good (v ++ Byte a e w ∷ Byte 45 f y ∷ []))

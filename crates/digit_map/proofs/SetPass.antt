@@ -1,5 +1,5 @@
 -- A set is taken as the grammar has it. Assumes nothing.
-use Rattle.std.proofs.Common.{◌≡◌, ℕ, ◌-◌, ◌^◌, ◌≤◌, Bool, true, false, List, [], ◌∷◌, ◌++◌, refl, ap, ◌∙◌, arith}
+use Rattle.std.proofs.Common.{◌≡◌, ℕ, ◌-◌, ◌^◌, ◌≤◌, Bool, true, false, List, [], ◌∷◌, ◌++◌, refl, ap, ◌∙◌, arith, Some}
 use lib.Bits.{bit_or}
 use Rattle.std.proofs.lemmas.Bool.Decides.{nat_tests}
 use Rattle.keypad.specs.declared.timers.Timers.{Timers}
@@ -52,24 +52,24 @@ free (Digit d) h = tt
 free (From d) h = absurd h
 
 digit_turn : (p : Place) (m a : ℕ) → Free p → digit a ≡ true →
-    set_turn p m a ≡ On (Digit (a - 48)) (flushed p m)
+    set_turn p m a ≡ Some (On (Digit (a - 48)) (flushed p m))
 digit_turn Start m a h e = grind (arith, nat_tests)
 digit_turn Member m a h e = grind (arith, nat_tests)
 digit_turn (Digit d) m a h e = grind (arith, nat_tests)
 digit_turn (From d) m a h e = absurd h
 
 letter_turn : (p : Place) (m a : ℕ) → Free p → key_letter_lem a ≡ true →
-    set_turn p m a ≡ On Member (bit_or (flushed p m) (2 ^ letter_key a))
+    set_turn p m a ≡ Some (On Member (bit_or (flushed p m) (2 ^ letter_key a)))
 letter_turn Start m a h e = grind (arith, nat_tests)
 letter_turn Member m a h e = grind (arith, nat_tests)
 letter_turn (Digit d) m a h e = grind (arith, nat_tests)
 letter_turn (From d) m a h e = absurd h
 
 range_turn : (a b m : ℕ) → digit a ≡ true → digit b ≡ true → a ≤ b → set_turn (From (a - 48)) m b
-    ≡ On Member (bit_or m (span (a - 48) (b - 48)))
+    ≡ Some (On Member (bit_or m (span (a - 48) (b - 48))))
 range_turn a b m e f h = grind (arith, nat_tests)
 
-close_turn : (p : Place) (m : ℕ) → Closing p → set_turn p m 93 ≡ Done (flushed p m)
+close_turn : (p : Place) (m : ℕ) → Closing p → set_turn p m 93 ≡ Some (Done (flushed p m))
 close_turn Start m h = absurd h
 close_turn Member m h = refl
 close_turn (Digit d) m h = refl
@@ -80,7 +80,7 @@ module _ (L : Limits) (t : Timers) (ns : List Node) (f : Frame) (p : Progress) (
   inside q k = state t ns (in_set f p l at q k)
 
   -- a byte inside a set
-  byte_pass : (q w : Place) (k n b : ℕ) (c : Bool) (o : ℕ) → set_turn q k b ≡ On w n →
+  byte_pass : (q w : Place) (k n b : ℕ) (c : Bool) (o : ℕ) → set_turn q k b ≡ Some (On w n) →
       run L (inside q k) (Byte b c o ∷ []) ≡ on (inside w n)
   byte_pass q w k n b c o e = run_on L (inside q k) (inside w n) (Byte b c o) []
       (ap (in_set_turned t ns f p l at) e)
@@ -169,7 +169,7 @@ module _ (L : Limits) (t : Timers) (ns : List Node) (f : Frame) (p : Progress) (
       run_step L (s ++ u) (Byte 93 d w) (inside Start 0) (inside y.stop y.keys) _
       (run_chain L s u (inside Start 0) (inside b.stop b.keys) _ b.goes y.goes)
       (ap (in_set_turned t ns f p l at) (close_turn y.stop y.keys y.closing)
-      ∙ ap (λ k. in_set_turned t ns f p l at (Done k)) e)
+      ∙ ap (λ k. in_set_turned t ns f p l at (Some (Done k))) e)
 
   -- the inside of a set as far as it is read
   pub inside_pass : {v : List Token} {q : Place} {k : ℕ} → Inside v q k → run L (inside Start 0) v
@@ -180,19 +180,19 @@ module _ (L : Limits) (t : Timers) (ns : List Node) (f : Frame) (p : Progress) (
       run_chain L s (Byte a c o ∷ []) (inside Start 0) (inside b.stop b.keys) _ b.goes
       (byte_pass b.stop Member b.keys _ a c o
       (letter_turn b.stop b.keys a b.open_to e
-      ∙ ap (λ k. On Member (bit_or k (2 ^ letter_key a))) b.all))
+      ∙ ap (λ k. Some (On Member (bit_or k (2 ^ letter_key a)))) b.all))
   inside_pass (st.digit_more {s = s} {m = m} ms a c o e) =
       let b : Begun s m = members_pass ms in
       run_chain L s (Byte a c o ∷ []) (inside Start 0) (inside b.stop b.keys) _ b.goes
       (byte_pass b.stop _ b.keys _ a c o
-      (digit_turn b.stop b.keys a b.open_to e ∙ ap (On (Digit (a - 48))) b.all))
+      (digit_turn b.stop b.keys a b.open_to e ∙ ap (λ k. Some (On (Digit (a - 48)) k)) b.all))
   inside_pass (st.hyphen {s = s} {m = m} ms a c o e d w) =
       let b : Begun s m = members_pass ms in
       run_chain L s (Byte a c o ∷ Byte 45 d w ∷ []) (inside Start 0) (inside b.stop b.keys) _ b.goes
       (run_chain L (Byte a c o ∷ []) (Byte 45 d w ∷ []) (inside b.stop b.keys)
       (inside (Digit (a - 48)) m) _
       (byte_pass b.stop _ b.keys _ a c o
-      (digit_turn b.stop b.keys a b.open_to e ∙ ap (On (Digit (a - 48))) b.all)) refl)
+      (digit_turn b.stop b.keys a b.open_to e ∙ ap (λ k. Some (On (Digit (a - 48)) k)) b.all)) refl)
   inside_pass (st.range {s = s} {m = m} ms a c o d w b e z x y le) =
       let r : Begun s m = members_pass ms in
       run_chain L s (Byte a c o ∷ Byte 45 d w ∷ Byte b e z ∷ []) (inside Start 0)

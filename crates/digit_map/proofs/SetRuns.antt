@@ -1,5 +1,5 @@
 -- The run over a set, byte by byte. Assumes nothing.
-use Rattle.std.proofs.Common.{◌≡◌, ℕ, ◌<◌, ◌≤◌, Bool, List, length, Ok, Err, sym, ap, ◌∙◌, arith}
+use Rattle.std.proofs.Common.{◌≡◌, ℕ, ◌<◌, ◌≤◌, Bool, List, length, Ok, Err, sym, ap, ◌∙◌, arith, Some, None, Option}
 use Rattle.keypad.specs.declared.timers.Timers.{Timers}
 use Rattle.digit_map.specs.declared.fault.Cause.TheVariants as cause
 use Rattle.digit_map.specs.declared.fault.Fault.{Fault}
@@ -9,7 +9,7 @@ use Rattle.digit_map.specs.declared.node.Node.{Node}
 use Rattle.digit_map.specs.declared.set.Place.{Place}
 use Rattle.digit_map.specs.declared.set.Place.TheVariants.{Start}
 use Rattle.digit_map.specs.declared.set.SetTurn.{SetTurn}
-use Rattle.digit_map.specs.declared.set.SetTurn.TheVariants.{On, Done, Bad}
+use Rattle.digit_map.specs.declared.set.SetTurn.TheVariants.{On, Done}
 use Rattle.digit_map.specs.declared.progress.Progress.{Progress}
 use Rattle.digit_map.specs.declared.progress.Frame.{Frame}
 use Rattle.digit_map.specs.Faults.{fault}
@@ -54,24 +54,24 @@ module _ {text : List ℕ} {base : ℕ} {c : Cursor} {at n : ℕ} {b : Cursor} {
       taken t ns f p l h ∙ ap (λ (r : Turn). went sale r (behind text base x after)) (by_byte_err n _ _ x e g)
 
   module _ {d : ℕ} (g : Ok d ≡ byte_at n (fault cause.Set at n) x) where
-    turned : (s : SetTurn) → s ≡ set_turn q k d
+    turned : (s : Option SetTurn) → s ≡ set_turn q k d
         → Gives text base c at n
         (λ t ns f p l. went sale (in_set_turned t ns f p l at s) (rest text base after))
     turned s e t ns f p l h =
         taken t ns f p l h
         ∙ (went_byte text base after sale n _ d _ x g
-        ∙ ap (λ (r : SetTurn). went sale (in_set_turned t ns f p l at r) (rest text base after)) (sym e))
+        ∙ ap (λ (r : Option SetTurn). went sale (in_set_turned t ns f p l at r) (rest text base after)) (sym e))
 
     moved : b.at < after.at
     moved = byte_moves n _ d _ _ x g next.moves
 
-    pub set_on : {r : Place} {m : ℕ} → On r m ≡ set_turn q k d → Sound r → SetUpTo text base c at n after r m
+    pub set_on : {r : Place} {m : ℕ} → Some (On r m) ≡ set_turn q k d → Sound r → SetUpTo text base c at n after r m
     set_on {r} {m} e h =
         let l = u.low in let v = moved in
-        record { low = omega arith; high = next.high; sound = h; is = turned (On r m) e }
+        record { low = omega arith; high = next.high; sound = h; is = turned (Some (On r m)) e }
 
-    pub set_done : {m : ℕ} → Done m ≡ set_turn q k d → SetRead text base c at n (Ok (m, after))
-    set_done {m} e = let l = u.low in let v = moved in (omega arith, next.high, turned (Done m) e)
+    pub set_done : {m : ℕ} → Some (Done m) ≡ set_turn q k d → SetRead text base c at n (Ok (m, after))
+    set_done {m} e = let l = u.low in let v = moved in (omega arith, next.high, turned (Some (Done m)) e)
 
-    pub set_bad : Bad ≡ set_turn q k d → SetRead text base c at n (Err (fault cause.Set at n))
-    set_bad e t ns f p l h = turned Bad e t ns f p l h ∙ ap (λ m. bad (fault cause.Set at m)) h
+    pub set_bad : None ≡ set_turn q k d → SetRead text base c at n (Err (fault cause.Set at n))
+    set_bad e t ns f p l h = turned None e t ns f p l h ∙ ap (λ m. bad (fault cause.Set at m)) h

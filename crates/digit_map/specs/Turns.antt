@@ -1,5 +1,5 @@
 -- A text read token by token. Assumes nothing.
-use Rattle.std.specs.Prelude.{ℕ, ◌+◌, Bool, true, false, cond, List, [], ◌∷◌, ◌++◌, nat_le}
+use Rattle.std.specs.Prelude.{ℕ, ◌+◌, Bool, true, false, cond, List, [], ◌∷◌, ◌++◌, Some, None, Option, nat_le}
 use Rattle.keypad.specs.declared.timers.Timers.{Timers}
 use Rattle.keypad.specs.Timing.{standard}
 use Rattle.digit_map.specs.declared.fault.Cause.{Cause}
@@ -137,17 +137,17 @@ turn_closed t ns n sign.Dot o = bad (fault cause.Affix o n)
 turn_closed t ns n sign.End o = done t ns
 turn_closed t ns n sign.Other o = bad (fault cause.Byte o n)
 
-abbrev pub fielded : Timers → Field → ℕ → FieldTurn → Turn
-fielded t i at (field.On d) = on (state t [] (in_field i at d))
-fielded t i at (field.Done v) = on (state (timed t i v) [] (in_head (rank i + 1)))
-fielded t i at field.Bad = bad (fault cause.Head at 0)
+abbrev pub fielded : Timers → Field → ℕ → Option FieldTurn → Turn
+fielded t i at (Some (field.On d)) = on (state t [] (in_field i at d))
+fielded t i at (Some (field.Done v)) = on (state (timed t i v) [] (in_head (rank i + 1)))
+fielded t i at None = bad (fault cause.Head at 0)
 
-abbrev pub in_set_turned : Timers → List Node → Frame → Progress → Bool → ℕ → SetTurn → Turn
-in_set_turned t ns f p l at (set.On q k) = on (state t ns (in_set f p l at q k))
-in_set_turned t ns f p l at (set.Done k) =
+abbrev pub in_set_turned : Timers → List Node → Frame → Progress → Bool → ℕ → Option SetTurn → Turn
+in_set_turned t ns f p l at (Some (set.On q k)) = on (state t ns (in_set f p l at q k))
+in_set_turned t ns f p l at (Some (set.Done k)) =
     on (state t (ns ++ awaiting (position k l false) p.mark p.marked ∷ [])
     (in_alternative f (onward p at p.mark false last.Position)))
-in_set_turned t ns f p l at set.Bad = bad (fault cause.Set at f.number)
+in_set_turned t ns f p l at None = bad (fault cause.Set at f.number)
 
 -- one token
 abbrev pub turn_at : Limits → Timers → List Node → Spot → Token → Turn

@@ -19,12 +19,11 @@ pub enum Digits {
     Two(u8),
 }
 
-// What a byte does to a field's reader.
+// What a byte that a field may have does to its reader.
 #[derive(Clone, Copy)]
 pub enum FieldTurn {
     On(Digits),
     Done(u8),
-    Bad,
 }
 
 // The place of a field in the order of the head.
@@ -73,31 +72,21 @@ fn with_field(timers: Timers, field: Field, value: u8) -> Timers
     }
 }
 
-fn turn_field(field: Field, digits: Digits, byte: u8) -> FieldTurn
+fn turn_field(field: Field, digits: Digits, byte: u8) -> Option<FieldTurn>
     requires { SoundDigits digits }
     ensures value { result ≡ field_turn field digits byte }
     ensures sound { SoundField result }
 {
     match (digits, byte) {
-        (Digits::Letter, b':') => FieldTurn::On(Digits::Colon),
-        (Digits::Colon, b'0'..=b'9') => FieldTurn::On(Digits::One(byte - b'0')),
+        (Digits::Letter, b':') => Some(FieldTurn::On(Digits::Colon)),
+        (Digits::Colon, b'0'..=b'9') => Some(FieldTurn::On(Digits::One(byte - b'0'))),
         (Digits::One(tens), b'0'..=b'9') => {
             let both = 10 * tens + (byte - b'0');
-            if may_be(field, both) {
-                FieldTurn::On(Digits::Two(both))
-            } else {
-                FieldTurn::Bad
-            }
+            may_be(field, both).then_some(FieldTurn::On(Digits::Two(both)))
         }
-        (Digits::One(only), b',') => {
-            if may_be(field, only) {
-                FieldTurn::Done(only)
-            } else {
-                FieldTurn::Bad
-            }
-        }
-        (Digits::Two(both), b',') => FieldTurn::Done(both),
-        _ => FieldTurn::Bad,
+        (Digits::One(only), b',') => may_be(field, only).then_some(FieldTurn::Done(only)),
+        (Digits::Two(both), b',') => Some(FieldTurn::Done(both)),
+        _ => None,
     }
 }
 
@@ -116,10 +105,9 @@ impl Reader<'_> {
         let mut digits = Digits::Letter;
         'bytes: loop {
             let byte = token_byte(self.next(), 1, ill_formed)?;
-            match turn_field(field, digits, byte) {
+            match turn_field(field, digits, byte).ok_or(ill_formed)? {
                 FieldTurn::On(next) => digits = next,
                 FieldTurn::Done(value) => return Ok(value),
-                FieldTurn::Bad => return Err(ill_formed),
             }
         }
     }

@@ -17,12 +17,11 @@ pub enum Place {
     From(u8),
 }
 
-// What a byte does to a set's reader.
+// What a byte that a set may have does to its reader.
 #[derive(Clone, Copy)]
 pub enum SetTurn {
     On(Place, u16),
     Done(u16),
-    Bad,
 }
 
 // The keys from `low` to `high`, as bits.
@@ -33,8 +32,9 @@ fn keys_between(low: u8, high: u8) -> u16
     (2 << high) - (1 << low)
 }
 
-// A digit is added to the keys once the next byte shows that it begins no range.
-fn turn_set(place: Place, keys: u16, byte: u8) -> SetTurn
+// A digit is added to the keys once the next byte shows that it begins no range; none for a byte that no set
+// has there.
+fn turn_set(place: Place, keys: u16, byte: u8) -> Option<SetTurn>
     requires { Sound place }
     ensures value { result ≡ set_turn place keys byte }
     ensures sound { SoundTurn result }
@@ -46,15 +46,15 @@ fn turn_set(place: Place, keys: u16, byte: u8) -> SetTurn
     };
     match (place, byte) {
         (Place::From(low), b'0'..=b'9') if low <= byte - b'0' => {
-            SetTurn::On(Place::Member, keys | keys_between(low, byte - b'0'))
+            Some(SetTurn::On(Place::Member, keys | keys_between(low, byte - b'0')))
         }
-        (Place::From(_), _) => SetTurn::Bad,
-        (Place::Digit(low), b'-') => SetTurn::On(Place::From(low), keys),
-        (_, b'0'..=b'9') => SetTurn::On(Place::Digit(byte - b'0'), keys),
-        (_, b'A'..=b'F') => SetTurn::On(Place::Member, keys | 1 << (byte - b'A' + 10)),
-        (_, b'a'..=b'f') => SetTurn::On(Place::Member, keys | 1 << (byte - b'a' + 10)),
-        (Place::Member | Place::Digit(_), b']') => SetTurn::Done(keys),
-        _ => SetTurn::Bad,
+        (Place::From(_), _) => None,
+        (Place::Digit(low), b'-') => Some(SetTurn::On(Place::From(low), keys)),
+        (_, b'0'..=b'9') => Some(SetTurn::On(Place::Digit(byte - b'0'), keys)),
+        (_, b'A'..=b'F') => Some(SetTurn::On(Place::Member, keys | 1 << (byte - b'A' + 10))),
+        (_, b'a'..=b'f') => Some(SetTurn::On(Place::Member, keys | 1 << (byte - b'a' + 10))),
+        (Place::Member | Place::Digit(_), b']') => Some(SetTurn::Done(keys)),
+        _ => None,
     }
 }
 
@@ -89,13 +89,12 @@ impl Reader<'_> {
         let mut place = Place::Start;
         'bytes: loop {
             let byte = token_byte(self.next(), alternative, unread)?;
-            match turn_set(place, keys, byte) {
+            match turn_set(place, keys, byte).ok_or(unread)? {
                 SetTurn::On(next, more) => {
                     place = next;
                     keys = more;
                 }
                 SetTurn::Done(all) => return Ok(all),
-                SetTurn::Bad => return Err(unread),
             }
         }
     }
