@@ -1,7 +1,6 @@
 -- The run over an alternative, token by token. Assumes nothing.
 use Rattle.std.proofs.Common.{◌≡◌, ℕ, ◌+◌, ◌-◌, ◌<◌, ◌≤◌, Bool, true, false, not, List, [], ◌∷◌, ◌++◌, length, Ok, Err, Result, sym, refl, ap, ◌∙◌, subst, arith}
 use Rattle.keypad.specs.declared.timers.Timers.{Timers}
-use Rattle.digit_map.specs.declared.fault.Cause.{Cause}
 use Rattle.digit_map.specs.declared.fault.Fault.{Fault}
 use Rattle.digit_map.specs.declared.sign.Sign.{Sign}
 use Rattle.digit_map.specs.declared.sign.Sign.TheVariants as sign
@@ -16,7 +15,7 @@ use Rattle.digit_map.specs.declared.progress.Last.TheVariants as last
 use Rattle.digit_map.specs.declared.progress.Progress.{Progress}
 use Rattle.digit_map.specs.declared.progress.Frame.{Frame}
 use Rattle.digit_map.specs.declared.progress.Act.{Act}
-use Rattle.digit_map.specs.declared.progress.Act.TheVariants.{Go, Put, AddDot, OpenSet, Halt, Wrong}
+use Rattle.digit_map.specs.declared.progress.Act.TheVariants.{Go, Put, AddDot, OpenSet, Halt}
 use Rattle.digit_map.specs.Signs.{sign_of}
 use Rattle.digit_map.specs.Tokens.{rest, behind, Moves, Next}
 use Rattle.digit_map.specs.Nodes.{position, awaiting, ending, count_positions, count_ends, dot_last_lem}
@@ -24,7 +23,7 @@ use Rattle.digit_map.specs.Drafts.{drafted}
 use Rattle.digit_map.specs.Limits.{sale}
 use Rattle.digit_map.specs.Acts.{fresh, onward, at_halt, acts}
 use Rattle.digit_map.specs.Rooms.{Room, RoomFor}
-use Rattle.digit_map.specs.Turns.{Turn, in_alternative, state, by_sign, fault_in_lem, halts, acted}
+use Rattle.digit_map.specs.Turns.{Turn, in_alternative, state, by_sign, halts, acted}
 use Rattle.digit_map.specs.Turns.{turn_alternative, run, went}
 use Rattle.digit_map.specs.Reads.{sign_at, SetRead, Passed, AlternativeRead}
 use Rattle.digit_map.proofs.Places.{positions_push, ends_push}
@@ -45,30 +44,30 @@ pub is_end : (n : ℕ) (s : Sign) (o q : ℕ) → Ok (s, o) ≡ sign_at n (End q
 is_end n s o q h = ap (λ (r : Sign × ℕ). r.0) (same_ok (s, o) (sign.End, q) h)
 
 -- behind what it does, the alternative goes on
-abbrev goes : Act → Bool
-goes (Go q) = true
-goes (Put x q) = true
-goes (AddDot q) = true
-goes (OpenSet l) = true
-goes Halt = false
-goes (Wrong c o) = false
+abbrev goes : Result Act Fault → Bool
+goes (Ok (Go q)) = true
+goes (Ok (Put x q)) = true
+goes (Ok (AddDot q)) = true
+goes (Ok (OpenSet l)) = true
+goes (Ok Halt) = false
+goes (Err e) = false
 
-halt_stops : (p : Progress) (o : ℕ) (here judged : Bool) (l : Last) → goes (at_halt p o here judged l) ≡ false
-halt_stops p o here judged last.Nothing = refl
-halt_stops p o here judged last.Mark = grind arith
-halt_stops p o here judged last.Position = grind arith
-halt_stops p o here judged last.Dot = grind arith
-halt_stops p o here judged (last.Hold z) = refl
+halt_stops : (n : ℕ) (p : Progress) (o : ℕ) (here judged : Bool) (l : Last) → goes (at_halt n p o here judged l) ≡ false
+halt_stops n p o here judged last.Nothing = refl
+halt_stops n p o here judged last.Mark = grind arith
+halt_stops n p o here judged last.Position = grind arith
+halt_stops n p o here judged last.Dot = grind arith
+halt_stops n p o here judged (last.Hold z) = refl
 
 -- at the text's end an alternative does not go on
-end_stops : (f : Frame) (count : ℕ) (p : Progress) (s : Sign) (o : ℕ) (a : Act)
+end_stops : (f : Frame) (count : ℕ) (p : Progress) (s : Sign) (o : ℕ) (a : Result Act Fault)
     → a ≡ acts sale f count p s o → s ≡ sign.End → goes a ≡ false
 end_stops f count p s o a e z =
     ap goes (e ∙ ap (λ r. acts sale f count p r o) z)
-    ∙ halt_stops p o (not f.bracketed) (not f.bracketed) p.last
+    ∙ halt_stops f.number p o (not f.bracketed) (not f.bracketed) p.last
 
 -- one that goes on has taken a byte
-module _ (f : Frame) (count : ℕ) (p : Progress) (n : ℕ) (s : Sign) (o : ℕ) (a : Act) (goes_on : goes a ≡ true)
+module _ (f : Frame) (count : ℕ) (p : Progress) (n : ℕ) (s : Sign) (o : ℕ) (a : Result Act Fault) (goes_on : goes a ≡ true)
     (e : a ≡ acts sale f count p s o) where
   goes_behind : (text : List ℕ) (base : ℕ) (c : Cursor) (x : Token) → Ok (s, o) ≡ sign_at n x
       → behind text base x c ≡ rest text base c
@@ -155,7 +154,7 @@ module _ {text : List ℕ} {base : ℕ} {c : Cursor} {f : Frame} {m : Draft} {b 
     {x : Token} {after : Cursor} (i : AlternativeUpTo text base c f m b w p) (next : Next text base b x after)
     {s : Sign} {o count : ℕ} (g : Ok (s, o) ≡ sign_at f.number x)
     (k : count ≡ count_positions (drafted w)) where
-  acted_by : (a : Act) → a ≡ acts sale f count p s o
+  acted_by : (a : Result Act Fault) → a ≡ acts sale f count p s o
       → onwards text base f m.timers (drafted m) fresh c
       ≡ went sale (acted m.timers (drafted w) f p s o a) (behind text base x after)
   acted_by a e =
@@ -164,16 +163,16 @@ module _ {text : List ℕ} {base : ℕ} {c : Cursor} {f : Frame} {m : Draft} {b 
       i.is
       ∙ (ap (run sale (state m.timers (drafted w) (in_alternative f p))) next.is
       ∙ ap (λ (r : Turn). went sale r (behind text base x after))
-      (h ∙ ap (λ (r : Act). acted m.timers (drafted w) f p s o r) q))
+      (h ∙ ap (λ (r : Result Act Fault). acted m.timers (drafted w) f p s o r) q))
 
-  goes_by : (a : Act) → a ≡ acts sale f count p s o → goes a ≡ true
+  goes_by : (a : Result Act Fault) → a ≡ acts sale f count p s o → goes a ≡ true
       → onwards text base f m.timers (drafted m) fresh c
       ≡ went sale (acted m.timers (drafted w) f p s o a) (rest text base after)
   goes_by a e h =
       let z = goes_behind f count p f.number s o a h e text base after x g in
       acted_by a e ∙ ap (went sale (acted m.timers (drafted w) f p s o a)) z
 
-  moved : (a : Act) → a ≡ acts sale f count p s o → goes a ≡ true → b.at < after.at
+  moved : (a : Result Act Fault) → a ≡ acts sale f count p s o → goes a ≡ true → b.at < after.at
   moved a e h = goes_moves f count p f.number s o a h e b.at after.at x g next.moves
 
   -- the map has grown to v, with j more positions, and the reader is at d
@@ -208,45 +207,45 @@ module _ {text : List ℕ} {base : ℕ} {c : Cursor} {f : Frame} {m : Draft} {b 
       grown q v d 1 up within (ap count_positions n ∙ positions_push (drafted w) _) same h t
       (r ∙ ap (λ ns. onwards text base f m.timers ns q d) (sym n))
 
-  pub alternative_put : {y : Position} {q : Progress} {v : Draft} → Put y q ≡ acts sale f count p s o
-      → RoomFor f.number count (Put y q) → drafted v ≡ drafted w ++ awaiting y p.mark p.marked ∷ []
+  pub alternative_put : {y : Position} {q : Progress} {v : Draft} → Ok (Put y q) ≡ acts sale f count p s o
+      → RoomFor f.number count (Ok (Put y q)) → drafted v ≡ drafted w ++ awaiting y p.mark p.marked ∷ []
       → v.timers ≡ w.timers → AlternativeUpTo text base c f m after v q
   alternative_put {y} {q} {v} e h n t =
-      let d = moved (Put y q) e refl in
-      pushed y q v after (omega arith) next.high n h.2 t (goes_by (Put y q) e refl)
+      let d = moved (Ok (Put y q)) e refl in
+      pushed y q v after (omega arith) next.high n h.2 t (goes_by (Ok (Put y q)) e refl)
 
-  pub alternative_dot : {q : Progress} {v : Draft} → AddDot q ≡ acts sale f count p s o
-      → RoomFor f.number count (AddDot q) → drafted v ≡ dot_last_lem (drafted w)
+  pub alternative_dot : {q : Progress} {v : Draft} → Ok (AddDot q) ≡ acts sale f count p s o
+      → RoomFor f.number count (Ok (AddDot q)) → drafted v ≡ dot_last_lem (drafted w)
       → v.timers ≡ w.timers → AlternativeUpTo text base c f m after v q
   alternative_dot {q} {v} e h n t =
-      let d = moved (AddDot q) e refl in
+      let d = moved (Ok (AddDot q)) e refl in
       let z = positions_dot_last (drafted w) in
       let none : count ≡ count + 0 = omega arith in
       let more : count_positions (drafted v) ≡ count_positions (drafted w) + 0 = ap count_positions n
       ∙ omega arith in
       grown q v after 0 (omega arith) next.high more (ap count_ends n ∙ ends_dot_last (drafted w))
       (subst (λ r. Room f.number r q.last) none h) t
-      (goes_by (AddDot q) e refl ∙ ap (λ ns. onwards text base f m.timers ns q after) (sym n))
+      (goes_by (Ok (AddDot q)) e refl ∙ ap (λ ns. onwards text base f m.timers ns q after) (sym n))
 
-  module _ {l : Bool} (keys : ℕ) (d : Cursor) (e : OpenSet l ≡ acts sale f count p s o)
+  module _ {l : Bool} (keys : ℕ) (d : Cursor) (e : Ok (OpenSet l) ≡ acts sale f count p s o)
       (r : SetRead text base after o f.number (Ok (keys, d))) where
-    pub alternative_set : {v : Draft} → RoomFor f.number count (OpenSet l)
+    pub alternative_set : {v : Draft} → RoomFor f.number count (Ok (OpenSet l))
         → drafted v ≡ drafted w ++ awaiting (position keys l false) p.mark p.marked ∷ [] →
         v.timers ≡ w.timers
         → AlternativeUpTo text base c f m d v (onward p o p.mark false last.Position)
     alternative_set {v} h n t =
-        let u = moved (OpenSet l) e refl in let a = r.0 in
+        let u = moved (Ok (OpenSet l)) e refl in let a = r.0 in
         pushed (position keys l false) (onward p o p.mark false last.Position) v d (omega arith) r.1 n
-        (h.0, omega (arith, h.1)) t (goes_by (OpenSet l) e refl ∙ r.2 m.timers (drafted w) f p l refl)
+        (h.0, omega (arith, h.1)) t (goes_by (Ok (OpenSet l)) e refl ∙ r.2 m.timers (drafted w) f p l refl)
 
     pub alternative_set_less : length text - d.at < length text - b.at
-    alternative_set_less = let u = moved (OpenSet l) e refl in let a = r.0 in let h = r.1 in omega arith
+    alternative_set_less = let u = moved (Ok (OpenSet l)) e refl in let a = r.0 in let h = r.1 in omega arith
 
-  pub alternative_wrong : (v : Draft) {why : Cause} {at : ℕ} → Wrong why at ≡ acts sale f count p s o
-      → AlternativeRead text base c f m v (Err (fault_in_lem f.number why at))
-  alternative_wrong v {why} {at} e = acted_by (Wrong why at) e
+  pub alternative_wrong : (v : Draft) {e : Fault} → Err e ≡ acts sale f count p s o
+      → AlternativeRead text base c f m v (Err e)
+  alternative_wrong v {e} h = acted_by (Err e) h
 
-  pub alternative_halt : (v : Draft) → Halt ≡ acts sale f count p s o → RoomFor f.number count Halt
+  pub alternative_halt : (v : Draft) → Ok Halt ≡ acts sale f count p s o → RoomFor f.number count (Ok Halt)
       → drafted v ≡ drafted w ++ ending p.mark p.marked ∷ [] → v.timers ≡ w.timers
       → AlternativeRead text base c f m v (Ok (s, after))
   alternative_halt v e h n t =
@@ -256,7 +255,7 @@ module _ {text : List ℕ} {base : ℕ} {c : Cursor} {f : Frame} {m : Draft} {b 
         next.high,
         h.0,
         ap count_ends n ∙ ends_push (drafted w) z ∙ i.ends,
-        acted_by Halt e
+        acted_by (Ok Halt) e
             ∙ (halts_behind f.number s o m.timers (drafted w ++ z ∷ []) f text base after x g
             ∙ ap (λ ns. went sale (halts m.timers ns f s) (rest text base after)) (sym n)),
       )

@@ -1,9 +1,10 @@
 -- What a token in an alternative leads to. Assumes nothing.
-use Rattle.std.proofs.Common.{◌≡◌, ℕ, ◌+◌, ◌<◌, ◌≤◌, Bool, true, false, cond, not, ◌&&◌, ltb, leb, List, [], ◌∷◌, ◌++◌, sym, refl, ap, ◌∙◌, subst, append_assoc, arith}
+use Rattle.std.proofs.Common.{◌≡◌, ℕ, ◌+◌, ◌<◌, ◌≤◌, Bool, true, false, cond, not, ◌&&◌, ltb, leb, List, [], ◌∷◌, ◌++◌, sym, refl, ap, ◌∙◌, subst, append_assoc, arith, Ok, Err, Result}
 use Rattle.std.proofs.lemmas.Bool.{cond_both, leb-true, ltb-true, and_parts, not-true, not-false, both_ways}
 use Rattle.std.proofs.lemmas.List.{append-nil}
 use Rattle.keypad.specs.declared.key.Mark.{Mark}
 use Rattle.keypad.specs.declared.timers.Timers.{Timers}
+use Rattle.digit_map.specs.declared.fault.Fault.{Fault}
 use Rattle.digit_map.specs.declared.fault.Cause.TheVariants as cause
 use Rattle.digit_map.specs.declared.sign.Sign.{Sign}
 use Rattle.digit_map.specs.declared.sign.Sign.TheVariants as sign
@@ -13,12 +14,12 @@ use Rattle.digit_map.specs.declared.node.Node.{Node}
 use Rattle.digit_map.specs.declared.progress.Last.TheVariants as last
 use Rattle.digit_map.specs.declared.progress.Progress.{Progress}
 use Rattle.digit_map.specs.declared.progress.Act.{Act}
-use Rattle.digit_map.specs.declared.progress.Act.TheVariants.{Go, Put, AddDot, OpenSet, Halt, Wrong}
+use Rattle.digit_map.specs.declared.progress.Act.TheVariants.{Go, Put, AddDot, OpenSet, Halt}
 use Rattle.digit_map.specs.declared.set.Place.TheVariants as place
 use Rattle.digit_map.specs.Signs.{sign_of}
 use Rattle.digit_map.specs.Nodes.{position, awaiting, ending, dot_last_lem, needs_key, count_positions}
 use Rattle.digit_map.specs.Limits.{Limits}
-use Rattle.digit_map.specs.Acts.{progress, onward, fresh, in_number_lem, has_room, at_halt, acts}
+use Rattle.digit_map.specs.Acts.{wrong, progress, onward, fresh, in_number_lem, has_room, at_halt, acts}
 use Rattle.digit_map.specs.Turns.{state, frame, in_alternative, in_set, closed}
 use Rattle.digit_map.specs.Turns.{acted, turn_alternative}
 use Rattle.digit_map.specs.Grammar as g
@@ -40,7 +41,7 @@ module _ (L : Limits) {s : List Token} {t : Timers} {b : Bool} {n : ℕ} {ns : L
   count us = count_positions (ns ++ us)
 
   -- what an act leads to
-  abbrev After : List Token → List Node → Progress → Token → Sign → ℕ → Act → Type 0
+  abbrev After : List Token → List Node → Progress → Token → Sign → ℕ → Result Act Fault → Type 0
   After u us p x sg o a = Leads L (s ++ u) x (acted t (ns ++ us) (frame b n) p sg o a)
 
   roomy : (k : ℕ) → has_room L (frame b n) k ≡ true → (n ≤ L.alternatives) × (k < L.positions)
@@ -55,7 +56,7 @@ module _ (L : Limits) {s : List Token} {t : Timers} {b : Bool} {n : ℕ} {ns : L
       (d : ℕ) (c : Bool) (o k : ℕ) → sign_of d c ≡ sign.Keys k →
       n ≤ L.alternatives → count us < L.positions →
       After u us p (Byte d c o) (sign.Keys k) o
-      (Put (position k l false) (onward p o p.mark false last.Position))
+      (Ok (Put (position k l false) (onward p o p.mark false last.Position)))
   put {u = u} {us = us} {l = l} {p = p} read d c o k e h j =
       regroup L s u (Byte d c o) (behind_position front read (g.single d c o k e))
       (h, one_more us (awaiting (position k l false) p.mark p.marked) refl j)
@@ -73,7 +74,7 @@ module _ (L : Limits) {s : List Token} {t : Timers} {b : Bool} {n : ℕ} {ns : L
 
   opens : {u : List Token} {us : List Node} {l : Bool} {p : Progress} → Read u us l p →
       (d : ℕ) (c : Bool) (o : ℕ) → d ≡ 91 →
-      n ≤ L.alternatives → count us < L.positions → After u us p (Byte d c o) sign.SetOpen o (OpenSet l)
+      n ≤ L.alternatives → count us < L.positions → After u us p (Byte d c o) sign.SetOpen o (Ok (OpenSet l))
   opens {u = u} {us = us} {l = l} {p = p} read d c o e h j =
       regroup L s u (Byte d c o)
       (subst (λ z. Stands (s ++ (u ++ Byte z c o ∷ []))
@@ -97,10 +98,10 @@ module _ (L : Limits) {s : List Token} {t : Timers} {b : Bool} {n : ℕ} {ns : L
       (d : ℕ) (c : Bool) (o : ℕ) → sign_of d c ≡ sign.Hold →
       After u us p (Byte d c o) sign.Hold o (acts L (frame b n) (count us) p sign.Hold o)
   hold_leads (free {u = u} {ns = us} {m = m} {e = e} x) d c o z =
-      subst (After u us (behind_elements u us m e) (Byte d c o) sign.Hold o) (sym (not_waiting e _))
+      subst (After u us (behind_elements u us m e) (Byte d c o) sign.Hold o) (sym (not_waiting n e _))
       (cond_both (has_room L (frame b n) (count us)) _ _
       (After u us (behind_elements u us m e) (Byte d c o) sign.Hold o)
-      (λ h. subst (λ q. After u us (behind_elements u us m e) (Byte d c o) sign.Hold o (Go q))
+      (λ h. subst (λ q. After u us (behind_elements u us m e) (Byte d c o) sign.Hold o (Ok (Go q)))
       (sym (onward_is x o m (is_mark e) (last.Hold o)))
       (regroup L s u (Byte d c o) (in_an_alternative front (held x d c o z)
       (started b (u ++ Byte d c o ∷ []) (filled_push u (Byte d c o) []))) (roomy (count us) h)))
@@ -119,10 +120,10 @@ module _ (L : Limits) {s : List Token} {t : Timers} {b : Bool} {n : ℕ} {ns : L
       (d : ℕ) (c : Bool) (o : ℕ) (k : Mark) → sign_of d c ≡ sign.Timer k →
       After u us p (Byte d c o) (sign.Timer k) o (acts L (frame b n) (count us) p (sign.Timer k) o)
   timer_leads (free {u = u} {ns = us} {m = m} {e = e} x) lim d c o k z =
-      subst (After u us (behind_elements u us m e) (Byte d c o) (sign.Timer k) o) (sym (not_waiting e _))
+      subst (After u us (behind_elements u us m e) (Byte d c o) (sign.Timer k) o) (sym (not_waiting n e _))
       (cond_both (in_number_lem L (frame b n)) _ _
       (After u us (behind_elements u us m e) (Byte d c o) (sign.Timer k) o)
-      (λ h. subst (λ q. After u us (behind_elements u us m e) (Byte d c o) (sign.Timer k) o (Go q))
+      (λ h. subst (λ q. After u us (behind_elements u us m e) (Byte d c o) (sign.Timer k) o (Ok (Go q)))
       (ap (λ q. progress k true (needs_key us) q last.Mark) (first_push u 0 (Byte d c o) [])
       ∙ sym (onward_is x o k true last.Mark))
       (regroup L s u (Byte d c o) (in_an_alternative front (free (mark_more x d c o k z))
@@ -134,7 +135,7 @@ module _ (L : Limits) {s : List Token} {t : Timers} {b : Bool} {n : ℕ} {ns : L
   dotted : {u : List Token} {us : List Node} {m : Mark} → Elements u us m g.place → n ≤ L.alternatives →
       count us ≤ L.positions → (d : ℕ) (c : Bool) (o : ℕ) → d ≡ 46 →
       After u us (behind_elements u us m g.place) (Byte d c o) sign.Dot o
-      (AddDot (progress m false (needs_key (dot_last_lem us)) (first_or 0 u) last.Dot))
+      (Ok (AddDot (progress m false (needs_key (dot_last_lem us)) (first_or 0 u) last.Dot)))
   dotted {u = u} {us = us} {m = m} x h j d c o e =
       let f : Facts g.place u us = facts x in
       let q : first_or 0 (u ++ Byte d c o ∷ []) ≡ first_or 0 u = same_first u f.0 in
@@ -170,17 +171,17 @@ module _ (L : Limits) {s : List Token} {t : Timers} {b : Bool} {n : ℕ} {ns : L
   dot_leads (held x d a q y) lim e c o z = tt
 
   -- an act at the end of an alternative, if it may end `here`
-  abbrev Halting : List Node → Bool → Act → Type 0
-  Halting us here (Go q) = ⊥
-  Halting us here (Put x q) = ⊥
-  Halting us here (AddDot q) = ⊥
-  Halting us here (OpenSet l) = ⊥
-  Halting us here Halt = (needs_key us ≡ true) × (here ≡ true)
-  Halting us here (Wrong c o) = Unit {0}
+  abbrev Halting : List Node → Bool → Result Act Fault → Type 0
+  Halting us here (Ok (Go q)) = ⊥
+  Halting us here (Ok (Put x q)) = ⊥
+  Halting us here (Ok (AddDot q)) = ⊥
+  Halting us here (Ok (OpenSet l)) = ⊥
+  Halting us here (Ok Halt) = (needs_key us ≡ true) × (here ≡ true)
+  Halting us here (Err e) = Unit {0}
 
   judges : (us : List Node) (here judged : Bool) (o first : ℕ) → (here ≡ true → judged ≡ true) →
-      Halting us here (cond (judged && not (needs_key us)) (Wrong cause.Keyless first)
-      (cond here Halt (Wrong cause.Byte o)))
+      Halting us here (cond (judged && not (needs_key us)) (wrong n cause.Keyless first)
+      (cond here (Ok Halt) (wrong n cause.Byte o)))
   judges us here judged o first f =
       cond_both (judged && not (needs_key us)) _ _ (Halting us here) (λ _. tt)
       (λ h. cond_both here _ _ (Halting us here) (λ e. (keyed (f e) h, e)) (λ _. tt))
@@ -190,7 +191,7 @@ module _ (L : Limits) {s : List Token} {t : Timers} {b : Bool} {n : ℕ} {ns : L
 
   halting : {u : List Token} {us : List Node} {l : Bool} {p : Progress} → Read u us l p →
       (o : ℕ) (here judged : Bool) → (here ≡ true → judged ≡ true) →
-      Halting us here (at_halt p o here judged p.last)
+      Halting us here (at_halt n p o here judged p.last)
   halting (free {e = nothing} x) o here judged f = tt
   halting (free {u = u} {ns = us} {e = mark} x) o here judged f = judges us here judged o (first_or 0 u) f
   halting (free {u = u} {ns = us} {e = g.place} x) o here judged f = cond_both here _ _ (Halting us here)
@@ -199,14 +200,14 @@ module _ (L : Limits) {s : List Token} {t : Timers} {b : Bool} {n : ℕ} {ns : L
   halting (held x d a q y) o here judged f = tt
 
   by_act : (u : List Token) (us : List Node) (p : Progress) (x : Token) (sg : Sign) (o : ℕ) (here : Bool)
-      (a : Act) → Halting us here a →
-      (needs_key us ≡ true → here ≡ true → After u us p x sg o Halt) → After u us p x sg o a
-  by_act u us p x sg o here (Go q) h f = absurd h
-  by_act u us p x sg o here (Put y q) h f = absurd h
-  by_act u us p x sg o here (AddDot q) h f = absurd h
-  by_act u us p x sg o here (OpenSet l) h f = absurd h
-  by_act u us p x sg o here Halt h f = f h.0 h.1
-  by_act u us p x sg o here (Wrong c z) h f = tt
+      (a : Result Act Fault) → Halting us here a →
+      (needs_key us ≡ true → here ≡ true → After u us p x sg o (Ok Halt)) → After u us p x sg o a
+  by_act u us p x sg o here (Ok (Go q)) h f = absurd h
+  by_act u us p x sg o here (Ok (Put y q)) h f = absurd h
+  by_act u us p x sg o here (Ok (AddDot q)) h f = absurd h
+  by_act u us p x sg o here (Ok (OpenSet l)) h f = absurd h
+  by_act u us p x sg o here (Ok Halt) h f = f h.0 h.1
+  by_act u us p x sg o here (Err e) h f = tt
 
   numbered : {u : List Token} {us : List Node} {m : Mark} (e : Final) → Elements u us m e →
       needs_key us ≡ true → InLimits L n (count us) (last_of e) → n ≤ L.alternatives
@@ -231,7 +232,7 @@ module _ (L : Limits) {s : List Token} {t : Timers} {b : Bool} {n : ℕ} {ns : L
     grouped = sym (append_assoc ns us (ending m (is_mark e) ∷ []))
 
     bar_halts : (d : ℕ) (c : Bool) (o : ℕ) → d ≡ 124 → b ≡ true →
-        After u us behind (Byte d c o) sign.Bar o Halt
+        After u us behind (Byte d c o) sign.Bar o (Ok Halt)
     bar_halts d c o z y =
         let f : Front s t true n ns = subst (λ v. Front s t v n ns) y front in
         let k = numbered e x needs lim in
@@ -247,7 +248,7 @@ module _ (L : Limits) {s : List Token} {t : Timers} {b : Bool} {n : ℕ} {ns : L
         (omega arith, counted)
 
     close_halts : (d : ℕ) (c : Bool) (o : ℕ) → d ≡ 41 → b ≡ true →
-        After u us behind (Byte d c o) sign.Close o Halt
+        After u us behind (Byte d c o) sign.Close o (Ok Halt)
     close_halts d c o z y =
         let f : Front s t true n ns = subst (λ v. Front s t v n ns) y front in
         regroup L s u (Byte d c o)
@@ -256,7 +257,7 @@ module _ (L : Limits) {s : List Token} {t : Timers} {b : Bool} {n : ℕ} {ns : L
         (behind_bracket f (elements x needs) c o)))
         (numbered e x needs lim, counted)
 
-    end_halts : (o : ℕ) → not b ≡ true → After u us behind (End o) sign.End o Halt
+    end_halts : (o : ℕ) → not b ≡ true → After u us behind (End o) sign.End o (Ok Halt)
     end_halts o y =
         let f : Front s t false n ns = subst (λ v. Front s t v n ns) (not-true b y) front in
         record {
@@ -299,14 +300,14 @@ module _ (L : Limits) {s : List Token} {t : Timers} {b : Bool} {n : ℕ} {ns : L
       (x : Token) (o : ℕ) →
       After u us p x sign.Other o (acts L (frame b n) (count us) p sign.Other o)
   other_leads (free {u = u} {ns = us} {m = m} {e = e} y) x o =
-      subst (After u us (behind_elements u us m e) x sign.Other o) (sym (not_waiting e _)) tt
+      subst (After u us (behind_elements u us m e) x sign.Other o) (sym (not_waiting n e _)) tt
   other_leads (held y d a q z) x o = tt
 
   open_leads : {u : List Token} {us : List Node} {l : Bool} {p : Progress} → Read u us l p →
       (x : Token) (o : ℕ) →
       After u us p x sign.Open o (acts L (frame b n) (count us) p sign.Open o)
   open_leads (free {u = u} {ns = us} {m = m} {e = e} y) x o =
-      subst (After u us (behind_elements u us m e) x sign.Open o) (sym (not_waiting e _)) tt
+      subst (After u us (behind_elements u us m e) x sign.Open o) (sym (not_waiting n e _)) tt
   open_leads (held y d a q z) x o = tt
 
   -- a byte in an alternative

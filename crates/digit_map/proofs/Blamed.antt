@@ -1,5 +1,5 @@
 -- A fault that shows stops the reader, at a fault that comes before it. Assumes nothing.
-use Rattle.std.proofs.Common.{◌≡◌, ℕ, ◌<◌, ◌≤◌, Bool, true, false, not, eqb, leb, ◌⊎◌, List, [], ◌∷◌, ◌++◌, sym, refl, ap, ◌∙◌, subst, inl, inr, append_assoc, arith, lit<, Some, None, Option}
+use Rattle.std.proofs.Common.{◌≡◌, ℕ, ◌<◌, ◌≤◌, Bool, true, false, not, eqb, leb, ◌⊎◌, List, [], ◌∷◌, ◌++◌, sym, refl, ap, ◌∙◌, subst, inl, inr, append_assoc, arith, lit<, Some, None, Option, Result}
 use Rattle.std.proofs.lemmas.Bool.Decides.{nat_tests}
 use Rattle.std.proofs.lemmas.Bool.{cond-true, cond-false, lt-leb, le-ltb, and_left, and_right, cases_lt, not_from_false}
 use Rattle.keypad.specs.declared.timers.Timers.{Timers}
@@ -22,7 +22,6 @@ use Rattle.digit_map.specs.declared.progress.Last.TheVariants as last
 use Rattle.digit_map.specs.declared.progress.Progress.{Progress}
 use Rattle.digit_map.specs.declared.progress.Frame.{Frame}
 use Rattle.digit_map.specs.declared.progress.Act.{Act}
-use Rattle.digit_map.specs.declared.progress.Act.TheVariants.{Wrong}
 use Rattle.digit_map.specs.Faults.{cause_number, fault}
 use Rattle.digit_map.specs.Bytes.{digit, field_letter}
 use Rattle.digit_map.specs.Signs.{sign_of}
@@ -30,7 +29,7 @@ use Rattle.digit_map.specs.Offsets.{at_of, Ascends}
 use Rattle.digit_map.specs.Nodes.{count_positions}
 use Rattle.digit_map.specs.Fields.{rank, field_turn}
 use Rattle.digit_map.specs.Limits.{sale}
-use Rattle.digit_map.specs.Acts.{has_room, in_number_lem, if_held, unless_held, at_dot, at_halt}
+use Rattle.digit_map.specs.Acts.{wrong, has_room, in_number_lem, if_held, unless_held, at_dot, at_halt}
 use Rattle.digit_map.specs.Turns.{State, Turn, on, done, bad, state, frame, in_alternative, turn, turn_head}
 use Rattle.digit_map.specs.Turns.{turn_alternative, turn_closed, acted, fielded, in_set_turned}
 use Rattle.digit_map.specs.Grammar as g
@@ -169,22 +168,22 @@ module _ (t : Timers) (ns : List Node) (f : Frame) (r : Progress) where
       (LastPosition r.last → ⊥) →
       ((z : ℕ) → LastHold z r.last → z ≤ o) → Blamed inside (Byte b c o) (fault cause.Affix o f.number)
   dot_stops last.Nothing h b c o e n k = exactly _
-      (sign_stops b c o sign.Dot _ e (ap (λ l. acted t ns f r sign.Dot o (at_dot r o l)) h))
+      (sign_stops b c o sign.Dot _ e (ap (λ l. acted t ns f r sign.Dot o (at_dot f.number r o l)) h))
       (λ z. omega arith)
   dot_stops last.Mark h b c o e n k = exactly _
-      (sign_stops b c o sign.Dot _ e (ap (λ l. acted t ns f r sign.Dot o (at_dot r o l)) h))
+      (sign_stops b c o sign.Dot _ e (ap (λ l. acted t ns f r sign.Dot o (at_dot f.number r o l)) h))
       (λ z. omega arith)
   dot_stops last.Position h b c o e n k = absurd (n (subst LastPosition (sym h) tt))
   dot_stops last.Dot h b c o e n k = exactly _
-      (sign_stops b c o sign.Dot _ e (ap (λ l. acted t ns f r sign.Dot o (at_dot r o l)) h))
+      (sign_stops b c o sign.Dot _ e (ap (λ l. acted t ns f r sign.Dot o (at_dot f.number r o l)) h))
       (λ z. omega arith)
   dot_stops (last.Hold z) h b c o e n k =
       lower _ (fault cause.Affix z f.number)
-      (sign_stops b c o sign.Dot _ e (ap (λ l. acted t ns f r sign.Dot o (at_dot r o l)) h)) refl
+      (sign_stops b c o sign.Dot _ e (ap (λ l. acted t ns f r sign.Dot o (at_dot f.number r o l)) h)) refl
       (k z (subst (LastHold z) (sym h) refl)) (λ y. omega arith)
 
-  delayed : (l : Last) (z : ℕ) → l ≡ last.Hold z → (a : Act) → unless_held l a ≡ Wrong cause.Affix z
-  delayed l z h a = ap (λ w. unless_held w a) h
+  delayed : (l : Last) (z : ℕ) → l ≡ last.Hold z → (a : Result Act Fault) → unless_held f.number l a ≡ wrong f.number cause.Affix z
+  delayed l z h a = ap (λ w. unless_held f.number w a) h
 
   -- a Z that waits stops at whatever is no position
   hold_stops : (z : ℕ) → r.last ≡ last.Hold z → (x : Token) (o : ℕ) (s : Sign) → (TakesZ s → ⊥) →
@@ -200,14 +199,14 @@ module _ (t : Timers) (ns : List Node) (f : Frame) (r : Progress) where
   hold_stops z h x o sign.Open n e = exactly _
       (e ∙ ap (acted t ns f r sign.Open o) (delayed r.last z h _)) (λ y. omega arith)
   hold_stops z h x o sign.Close n e = exactly _
-      (e ∙ ap (λ l. acted t ns f r sign.Close o (at_halt r o f.bracketed true l)) h) (λ y. omega arith)
+      (e ∙ ap (λ l. acted t ns f r sign.Close o (at_halt f.number r o f.bracketed true l)) h) (λ y. omega arith)
   hold_stops z h x o sign.Bar n e = exactly _
-      (e ∙ ap (λ l. acted t ns f r sign.Bar o (at_halt r o f.bracketed true l)) h) (λ y. omega arith)
-  hold_stops z h x o sign.Dot n e = exactly _ (e ∙ ap (λ l. acted t ns f r sign.Dot o (at_dot r o l)) h)
+      (e ∙ ap (λ l. acted t ns f r sign.Bar o (at_halt f.number r o f.bracketed true l)) h) (λ y. omega arith)
+  hold_stops z h x o sign.Dot n e = exactly _ (e ∙ ap (λ l. acted t ns f r sign.Dot o (at_dot f.number r o l)) h)
       (λ y. omega arith)
   hold_stops z h x o sign.End n e =
       exactly _ (e ∙ ap (λ l. acted t ns f r sign.End o
-      (at_halt r o (not f.bracketed) (not f.bracketed) l)) h) (λ y. omega arith)
+      (at_halt f.number r o (not f.bracketed) (not f.bracketed) l)) h) (λ y. omega arith)
   hold_stops z h x o sign.Other n e = exactly _
       (e ∙ ap (acted t ns f r sign.Other o) (delayed r.last z h _)) (λ y. omega arith)
 
@@ -228,15 +227,15 @@ module _ (t : Timers) (ns : List Node) (f : Frame) (r : Progress) where
   -- an alternative that needs no key stops where it is judged
   needless_stops : (l : Last) → r.last ≡ l → LastNeedless r.needs r.last →
       (s : Sign) (o : ℕ) (here : Bool) →
-      acted t ns f r s o (at_halt r o here true r.last) ≡ bad (fault cause.Keyless r.first f.number)
+      acted t ns f r s o (at_halt f.number r o here true r.last) ≡ bad (fault cause.Keyless r.first f.number)
   needless_stops last.Nothing h w s o here = absurd (subst (LastNeedless r.needs) h w)
   needless_stops last.Mark h w s o here =
-      ap (λ l. acted t ns f r s o (at_halt r o here true l)) h
+      ap (λ l. acted t ns f r s o (at_halt f.number r o here true l)) h
       ∙ ap (acted t ns f r s o) (cond-true _ _ _
       (not_from_false r.needs (subst (LastNeedless r.needs) h w)))
   needless_stops last.Position h w s o here = absurd (subst (LastNeedless r.needs) h w)
   needless_stops last.Dot h w s o here =
-      ap (λ l. acted t ns f r s o (at_halt r o here true l)) h
+      ap (λ l. acted t ns f r s o (at_halt f.number r o here true l)) h
       ∙ ap (acted t ns f r s o) (cond-true _ _ _
       (not_from_false r.needs (subst (LastNeedless r.needs) h w)))
   needless_stops (last.Hold z) h w s o here = absurd (subst (LastNeedless r.needs) h w)
@@ -253,7 +252,7 @@ module _ (t : Timers) (ns : List Node) (f : Frame) (r : Progress) where
   ends_needless sign.Bar y w o = needless_stops r.last refl w sign.Bar o f.bracketed
   ends_needless sign.Dot y w o = absurd y
   ends_needless sign.End y w o =
-      ap (λ b. acted t ns f r sign.End o (at_halt r o (not b) (not b) r.last)) y
+      ap (λ b. acted t ns f r sign.End o (at_halt f.number r o (not b) (not b) r.last)) y
       ∙ needless_stops r.last refl w sign.End o true
   ends_needless sign.Other y w o = absurd y
 
@@ -273,14 +272,14 @@ module _ (t : Timers) (ns : List Node) (f : Frame) (r : Progress) where
   element_solid (Gap o) y = y
   element_solid (End o) y = tt
 
-  not_kept : (l : Last) → LastFree l → (a b : Act) → if_held l a b ≡ b
+  not_kept : (l : Last) → LastFree l → (a b : Result Act Fault) → if_held l a b ≡ b
   not_kept last.Nothing h a b = refl
   not_kept last.Mark h a b = refl
   not_kept last.Position h a b = refl
   not_kept last.Dot h a b = refl
   not_kept (last.Hold z) h a b = absurd h
 
-  not_delayed : (l : Last) → LastFree l → (a : Act) → unless_held l a ≡ a
+  not_delayed : (l : Last) → LastFree l → (a : Result Act Fault) → unless_held f.number l a ≡ a
   not_delayed last.Nothing h a = refl
   not_delayed last.Mark h a = refl
   not_delayed last.Position h a = refl

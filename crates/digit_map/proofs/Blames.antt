@@ -1,5 +1,5 @@
 -- A token that the reader stops at shows the fault that it answers. Assumes nothing.
-use Rattle.std.proofs.Common.{◌≡◌, ℕ, Bool, true, false, cond, not, ◌&&◌, ltb, leb, ◌⊎◌, List, [], ◌∷◌, ◌++◌, sym, refl, ap, ◌∙◌, subst, inl, inr, ⊎_elim, arith, Some, None, Option}
+use Rattle.std.proofs.Common.{◌≡◌, ℕ, Bool, true, false, cond, not, ◌&&◌, ltb, leb, ◌⊎◌, List, [], ◌∷◌, ◌++◌, sym, refl, ap, ◌∙◌, subst, inl, inr, ⊎_elim, arith, Some, None, Option, Ok, Result}
 use Rattle.std.proofs.lemmas.Bool.{cond_both, leb-false, ltb-false, and_cases, and_parts, not-true}
 use Rattle.keypad.specs.declared.timers.Timers.{Timers}
 use Rattle.digit_map.specs.declared.fault.Cause.TheVariants as cause
@@ -21,7 +21,7 @@ use Rattle.digit_map.specs.declared.progress.Last.TheVariants as last
 use Rattle.digit_map.specs.declared.progress.Progress.{Progress}
 use Rattle.digit_map.specs.declared.progress.Frame.{Frame}
 use Rattle.digit_map.specs.declared.progress.Act.{Act}
-use Rattle.digit_map.specs.declared.progress.Act.TheVariants.{Halt, Wrong}
+use Rattle.digit_map.specs.declared.progress.Act.TheVariants.{Halt}
 use Rattle.digit_map.specs.Faults.{fault}
 use Rattle.digit_map.specs.Signs.{sign_of}
 use Rattle.digit_map.specs.Offsets.{at_of}
@@ -29,7 +29,7 @@ use Rattle.digit_map.specs.Nodes.{count_positions}
 use Rattle.digit_map.specs.Sets.{set_turn}
 use Rattle.digit_map.specs.Fields.{rank, field_turn}
 use Rattle.digit_map.specs.Limits.{sale}
-use Rattle.digit_map.specs.Acts.{has_room, in_number_lem, if_held, unless_held, at_halt, at_dot}
+use Rattle.digit_map.specs.Acts.{wrong, has_room, in_number_lem, if_held, unless_held, at_halt, at_dot}
 use Rattle.digit_map.specs.Turns.{State, Turn, on, done, bad, state, start, in_head, in_field, in_alternative}
 use Rattle.digit_map.specs.Turns.{in_set, closed, turn, turn_head, turn_alternative, turn_closed, acted}
 use Rattle.digit_map.specs.Turns.{fielded, in_set_turned, run, went}
@@ -72,7 +72,7 @@ module _ (p : List Token) (x : Token) where
     abbrev here : State
     here = state t ns (in_alternative f r)
 
-    abbrev Acted : Sign → Act → Type 0
+    abbrev Acted : Sign → Result Act Fault → Type 0
     Acted s a = Ruled here (acted t ns f r s (at_of x) a)
 
     excess : (s : Sign) → token_sign_lem x ≡ s → BeginsPosition s → BeginsElement s → LastFree r.last →
@@ -86,20 +86,20 @@ module _ (p : List Token) (x : Token) where
 
     -- where a position may begin
     room_ruled : (s : Sign) → token_sign_lem x ≡ s → BeginsPosition s → BeginsElement s → LastFree r.last →
-        (a : Act) → Acted s a →
-        Acted s (cond (has_room sale f (count_positions ns)) a (Wrong cause.Excess (at_of x)))
+        (a : Result Act Fault) → Acted s a →
+        Acted s (cond (has_room sale f (count_positions ns)) a (wrong f.number cause.Excess (at_of x)))
     room_ruled s e b c l a y = cond_both (has_room sale f (count_positions ns)) _ _ (Acted s) (λ _. y)
         (λ h. inl (excess s e b c l h))
 
-    number_ruled : (s : Sign) → token_sign_lem x ≡ s → BeginsElement s → LastFree r.last → (a : Act) →
+    number_ruled : (s : Sign) → token_sign_lem x ≡ s → BeginsElement s → LastFree r.last → (a : Result Act Fault) →
         Acted s a →
-        Acted s (cond (in_number_lem sale f) a (Wrong cause.Excess (at_of x)))
+        Acted s (cond (in_number_lem sale f) a (wrong f.number cause.Excess (at_of x)))
     number_ruled s e c l a y =
         cond_both (in_number_lem sale f) _ _ (Acted s) (λ _. y)
         (λ h. inl (alternative_excess l (leb-false f.number 64 h) (subst BeginsElement (sym e) c)))
 
     -- by whether a Z waits
-    if_held_ruled : (s : Sign) (l : Last) → r.last ≡ l → (a b : Act) → Acted s a →
+    if_held_ruled : (s : Sign) (l : Last) → r.last ≡ l → (a b : Result Act Fault) → Acted s a →
         (LastFree r.last → Acted s b) → Acted s (if_held l a b)
     if_held_ruled s last.Nothing e a b y z = z (subst LastFree (sym e) tt)
     if_held_ruled s last.Mark e a b y z = z (subst LastFree (sym e) tt)
@@ -108,13 +108,13 @@ module _ (p : List Token) (x : Token) where
     if_held_ruled s (last.Hold o) e a b y z = y
 
     held_ruled : (s : Sign) → token_sign_lem x ≡ s → Solid x → (TakesZ s → ⊥) → (z : ℕ) → r.last ≡ last.Hold z →
-        Acted s (Wrong cause.Affix z)
+        Acted s (wrong f.number cause.Affix z)
     held_ruled s e d n z h = inl (hold_misplaced z (subst (LastHold z) (sym h) refl) d
         (λ y. n (subst TakesZ e y)))
 
     unless_held_ruled : (s : Sign) → token_sign_lem x ≡ s → Solid x → (TakesZ s → ⊥) → (l : Last) → r.last ≡ l →
-        (a : Act) → (LastFree r.last → Acted s a) →
-        Acted s (unless_held l a)
+        (a : Result Act Fault) → (LastFree r.last → Acted s a) →
+        Acted s (unless_held f.number l a)
     unless_held_ruled s e d n last.Nothing h a y = y (subst LastFree (sym h) tt)
     unless_held_ruled s e d n last.Mark h a y = y (subst LastFree (sym h) tt)
     unless_held_ruled s e d n last.Position h a y = y (subst LastFree (sym h) tt)
@@ -122,7 +122,7 @@ module _ (p : List Token) (x : Token) where
     unless_held_ruled s e d n (last.Hold z) h a y = held_ruled s e d n z h
 
     dot_ruled : token_sign_lem x ≡ sign.Dot → Solid x → (l : Last) → r.last ≡ l →
-        Acted sign.Dot (at_dot r (at_of x) l)
+        Acted sign.Dot (at_dot f.number r (at_of x) l)
     dot_ruled e d last.Nothing h = inl (dot_misplaced e tt (λ y. subst LastPosition h y))
     dot_ruled e d last.Mark h = inl (dot_misplaced e tt (λ y. subst LastPosition h y))
     dot_ruled e d last.Position h = tt
@@ -130,11 +130,11 @@ module _ (p : List Token) (x : Token) where
     dot_ruled e d (last.Hold z) h = held_ruled sign.Dot e d (λ y. y) z h
 
     -- where an alternative may end
-    module _ (s : Sign) (e : token_sign_lem x ≡ s) (d : Solid x) (n : TakesZ s → ⊥) (ends : Acted s Halt)
+    module _ (s : Sign) (e : token_sign_lem x ≡ s) (d : Solid x) (n : TakesZ s → ⊥) (ends : Acted s (Ok Halt))
         (inside judged : Bool) (judges : judged ≡ true → Ends f.bracketed s) where
       needless_ruled : LastNeedless r.needs r.last ⊎ (r.needs ≡ true) →
-          Acted s (cond (judged && not r.needs) (Wrong cause.Keyless r.first)
-          (cond inside Halt (Wrong cause.Byte (at_of x))))
+          Acted s (cond (judged && not r.needs) (wrong f.number cause.Keyless r.first)
+          (cond inside (Ok Halt) (wrong f.number cause.Byte (at_of x))))
       needless_ruled l =
           cond_both (judged && not r.needs) _ _ (Acted s)
           (λ h. let y = and_parts judged (not r.needs) h in
@@ -155,7 +155,7 @@ module _ (p : List Token) (x : Token) where
       lacking true h y = inr h
       lacking false h y = inl (y h)
 
-      halt_ruled : (l : Last) → r.last ≡ l → Acted s (at_halt r (at_of x) inside judged l)
+      halt_ruled : (l : Last) → r.last ≡ l → Acted s (at_halt f.number r (at_of x) inside judged l)
       halt_ruled last.Nothing h = inr refl
       halt_ruled last.Mark h = needless_ruled
           (lacking r.needs refl (λ y. subst (LastNeedless r.needs) (sym h) y))

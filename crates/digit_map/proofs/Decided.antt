@@ -7,7 +7,8 @@ use Rattle.digit_map.specs.declared.token.Token.{Token}
 use Rattle.digit_map.specs.Faults.{cause_number}
 use Rattle.digit_map.specs.Offsets.{at_of, Ascends}
 use Rattle.digit_map.specs.Limits.{sale}
-use Rattle.digit_map.specs.Turns.{State, Turn, on, done, bad, start, fault_in_lem, turn, run, went}
+use Rattle.digit_map.specs.Faults.{fault_in_lem}
+use Rattle.digit_map.specs.Turns.{State, Turn, on, done, bad, start, turn, run, went}
 use Rattle.digit_map.specs.Standing.{Standing}
 use Rattle.digit_map.specs.Situations.{number_at}
 use Rattle.digit_map.specs.Shows.{Faulty, field_misplaced, field_broken, set_broken}

@@ -1,8 +1,9 @@
 -- Elements are taken as the grammar has them. Assumes nothing.
-use Rattle.std.proofs.Common.{◌≡◌, ℕ, ◌≤◌, Bool, true, false, List, [], ◌∷◌, ◌++◌, sym, refl, ap, ◌∙◌, append_assoc, arith}
+use Rattle.std.proofs.Common.{◌≡◌, ℕ, ◌≤◌, Bool, true, false, List, [], ◌∷◌, ◌++◌, sym, refl, ap, ◌∙◌, append_assoc, arith, Ok, Result}
 use Rattle.std.proofs.lemmas.Bool.{cond-true, le-leb, lt-ltb, and_from}
 use Rattle.keypad.specs.declared.key.Mark.{Mark}
 use Rattle.keypad.specs.declared.timers.Timers.{Timers}
+use Rattle.digit_map.specs.declared.fault.Fault.{Fault}
 use Rattle.digit_map.specs.declared.sign.Sign.TheVariants as sign
 use Rattle.digit_map.specs.declared.token.Token.{Token}
 use Rattle.digit_map.specs.declared.token.Token.TheVariants.{Byte}
@@ -30,20 +31,20 @@ use Rattle.digit_map.proofs.SetPass.{set_pass}
 -- a position may begin, long or not
 pub record Takes (L : Limits) (f : Frame) (n : ℕ) (p : Progress) (l : Bool) : Type 0 where
   pub keys : (k o : ℕ) → acts L f n p (sign.Keys k) o
-      ≡ Put (position k l false) (onward p o p.mark false last.Position)
-  pub opens : (o : ℕ) → acts L f n p sign.SetOpen o ≡ OpenSet l
+      ≡ Ok (Put (position k l false) (onward p o p.mark false last.Position))
+  pub opens : (o : ℕ) → acts L f n p sign.SetOpen o ≡ Ok (OpenSet l)
 
-pub not_held : (e : Final) (a b : Act) → if_held (last_of e) a b ≡ b
+pub not_held : (e : Final) (a b : Result Act Fault) → if_held (last_of e) a b ≡ b
 not_held nothing a b = refl
 not_held mark a b = refl
 not_held g.place a b = refl
 not_held dot a b = refl
 
-pub not_waiting : (e : Final) (a : Act) → unless_held (last_of e) a ≡ a
-not_waiting nothing a = refl
-not_waiting mark a = refl
-not_waiting g.place a = refl
-not_waiting dot a = refl
+pub not_waiting : (n : ℕ) (e : Final) (a : Result Act Fault) → unless_held n (last_of e) a ≡ a
+not_waiting n nothing a = refl
+not_waiting n mark a = refl
+not_waiting n g.place a = refl
+not_waiting n dot a = refl
 
 pub takes_free : (L : Limits) (f : Frame) (n : ℕ) (u : List Token) (ns : List Node) (m : Mark) (e : Final) →
     has_room L f n ≡ true →
@@ -93,9 +94,9 @@ module _ (L : Limits) (t : Timers) (f : Frame) where
     pub hold_turn : {u : List Token} {us : List Node} {m : Mark} {e : Final} → Elements u us m e → (o : ℕ) →
         has_room L f (count_positions (ns ++ us)) ≡ true →
         acts L f (count_positions (ns ++ us)) (behind_elements u us m e) sign.Hold o
-        ≡ Go (behind_hold u us m e o)
+        ≡ Ok (Go (behind_hold u us m e o))
     hold_turn {u = u} {us = us} {m = m} {e = e} x o h =
-        not_waiting e _ ∙ (cond-true _ _ _ h ∙ ap Go (onward_is x o m (is_mark e) (last.Hold o)))
+        not_waiting f.number e _ ∙ (cond-true _ _ _ h ∙ ap (λ q. Ok (Go q)) (onward_is x o m (is_mark e) (last.Hold o)))
 
     pub hold_pass : {u : List Token} {us : List Node} {m : Mark} {e : Final} → Elements u us m e →
         (b : ℕ) (c : Bool) (o : ℕ) →
@@ -153,8 +154,8 @@ module _ (L : Limits) (t : Timers) (f : Frame) where
     pub mark_turn : {u : List Token} {us : List Node} {m : Mark} {e : Final} → Elements u us m e →
         (k : Mark) (o : ℕ) → in_number_lem L f ≡ true →
         acts L f (count_positions (ns ++ us)) (behind_elements u us m e) (sign.Timer k) o
-        ≡ Go (progress k true (needs_key us) (first_or o u) last.Mark)
-    mark_turn {e = e} x k o h = not_waiting e _ ∙ (cond-true _ _ _ h ∙ ap Go (onward_is x o k true last.Mark))
+        ≡ Ok (Go (progress k true (needs_key us) (first_or o u) last.Mark))
+    mark_turn {e = e} x k o h = not_waiting f.number e _ ∙ (cond-true _ _ _ h ∙ ap (λ q. Ok (Go q)) (onward_is x o k true last.Mark))
 
     mark_pass : {u : List Token} {us : List Node} {m : Mark} {e : Final} → Elements u us m e →
         (b : ℕ) (c : Bool) (o : ℕ) (k : Mark) →

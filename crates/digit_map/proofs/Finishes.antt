@@ -1,7 +1,8 @@
 -- A text read without fault so far can be finished: with which bytes. Assumes nothing.
-use Rattle.std.proofs.Common.{◌≡◌, ℕ, ◌+◌, ◌-◌, ◌*◌, ◌≤◌, Bool, true, false, cond, leb, List, [], ◌∷◌, ◌++◌, refl, ap, ◌∙◌, arith}
+use Rattle.std.proofs.Common.{◌≡◌, ℕ, ◌+◌, ◌-◌, ◌*◌, ◌≤◌, Bool, true, false, cond, leb, List, [], ◌∷◌, ◌++◌, refl, ap, ◌∙◌, arith, Ok, Result}
 use Rattle.std.proofs.lemmas.Bool.{cond-true, le-leb, lt-ltb, leb-true, and_from, and_parts}
 use Rattle.keypad.specs.declared.timers.Timers.{Timers}
+use Rattle.digit_map.specs.declared.fault.Fault.{Fault}
 use Rattle.digit_map.specs.declared.sign.Field.{Field}
 use Rattle.digit_map.specs.declared.sign.Field.TheVariants as field
 use Rattle.digit_map.specs.declared.sign.Sign.TheVariants as sign
@@ -88,8 +89,8 @@ room b n count last.Dot h = let k = h.0 in roomy b n count (omega arith) h.1
 room b n count (last.Hold z) h = let k = h.0 in let j = h.1 in roomy b n count (omega arith) (omega arith)
 
 -- a key is put
-puts : (r : Bool) (l : Last) (x y : Position) (p : Progress) (a : Act) → r ≡ true →
-    (z : Position) × (if_held l (Put x p) (cond r (Put y p) a) ≡ Put z p)
+puts : (r : Bool) (l : Last) (x y : Position) (p : Progress) (a : Result Act Fault) → r ≡ true →
+    (z : Position) × (if_held l (Ok (Put x p)) (cond r (Ok (Put y p)) a) ≡ Ok (Put z p))
 puts r last.Nothing x y p a e = (y, cond-true _ _ _ e)
 puts r last.Mark x y p a e = (y, cond-true _ _ _ e)
 puts r last.Position x y p a e = (y, cond-true _ _ _ e)

@@ -1,7 +1,8 @@
 -- A letter T, S, L or Z begins a field where what finishes the text has a colon next. Assumes nothing.
-use Rattle.std.proofs.Common.{◌≡◌, ℕ, ◌+◌, Bool, true, false, ◌&&◌, ◌||◌, eqb, leb, List, [], ◌∷◌, ◌++◌, sym, refl, ap, ◌∙◌, subst, ⊎_elim, arith, None}
+use Rattle.std.proofs.Common.{◌≡◌, ℕ, ◌+◌, Bool, true, false, ◌&&◌, ◌||◌, eqb, leb, List, [], ◌∷◌, ◌++◌, sym, refl, ap, ◌∙◌, subst, ⊎_elim, arith, None, Ok, Err, Result}
 use Rattle.std.proofs.lemmas.Bool.{cond_both, cond-false, eqb-true, or_cases}
 use Rattle.keypad.specs.declared.timers.Timers.{Timers}
+use Rattle.digit_map.specs.declared.fault.Fault.{Fault}
 use Rattle.digit_map.specs.declared.fault.Cause.TheVariants as cause
 use Rattle.digit_map.specs.declared.sign.Field.{Field}
 use Rattle.digit_map.specs.declared.sign.Sign.{Sign}
@@ -16,7 +17,7 @@ use Rattle.digit_map.specs.declared.head.Digits.TheVariants as digits
 use Rattle.digit_map.specs.declared.progress.Progress.{Progress}
 use Rattle.digit_map.specs.declared.progress.Frame.{Frame}
 use Rattle.digit_map.specs.declared.progress.Act.{Act}
-use Rattle.digit_map.specs.declared.progress.Act.TheVariants.{Go, Put, AddDot, OpenSet, Halt, Wrong}
+use Rattle.digit_map.specs.declared.progress.Act.TheVariants.{Go, Put, AddDot, OpenSet, Halt}
 use Rattle.digit_map.specs.Faults.{fault}
 use Rattle.digit_map.specs.Bytes.{letter, field_letter}
 use Rattle.digit_map.specs.Signs.{sign_of}
@@ -115,13 +116,13 @@ halts_on t ns f sign.Other = tt
 
 module _ (L : Limits) (a : Bool) (t : Timers) (o : ℕ) where
   module _ (ns : List Node) (f : Frame) (p : Progress) where
-    acted_on : (s : Sign) (x : Act) → Colons false (acted t ns f p s o x)
-    acted_on s (Go q) = refl
-    acted_on s (Put x q) = refl
-    acted_on s (AddDot q) = refl
-    acted_on s (OpenSet l) = refl
-    acted_on s Halt = halts_on t _ f s
-    acted_on s (Wrong c at) = tt
+    acted_on : (s : Sign) (x : Result Act Fault) → Colons false (acted t ns f p s o x)
+    acted_on s (Ok (Go q)) = refl
+    acted_on s (Ok (Put x q)) = refl
+    acted_on s (Ok (AddDot q)) = refl
+    acted_on s (Ok (OpenSet l)) = refl
+    acted_on s (Ok Halt) = halts_on t _ f s
+    acted_on s (Err e) = tt
 
     goes_on : (s : Sign) → a ≡ false → Colons a (turn_alternative L t ns f p s o)
     goes_on s e =

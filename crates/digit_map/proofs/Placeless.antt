@@ -1,8 +1,8 @@
 -- Tokens are read alike wherever they stand: offsets decide nothing but what a fault tells. Assumes nothing.
-use Rattle.std.proofs.Common.{◌≡◌, ℕ, Bool, true, false, cond, not, ◌&&◌, leb, List, [], ◌∷◌, ◌++◌, sym, refl, ap, ◌∙◌, arith, Some, None, Option}
+use Rattle.std.proofs.Common.{◌≡◌, ℕ, Bool, true, false, cond, not, ◌&&◌, leb, List, [], ◌∷◌, ◌++◌, sym, refl, ap, ◌∙◌, arith, Some, None, Option, Ok, Err, Result}
 use Rattle.keypad.specs.declared.key.Mark.{Mark}
 use Rattle.keypad.specs.declared.timers.Timers.{Timers}
-use Rattle.digit_map.specs.declared.fault.Cause.{Cause}
+use Rattle.digit_map.specs.declared.fault.Fault.{Fault}
 use Rattle.digit_map.specs.declared.fault.Cause.TheVariants as cause
 use Rattle.digit_map.specs.declared.sign.Field.{Field}
 use Rattle.digit_map.specs.declared.sign.Sign.{Sign}
@@ -20,17 +20,17 @@ use Rattle.digit_map.specs.declared.progress.Last.TheVariants as last
 use Rattle.digit_map.specs.declared.progress.Progress.{Progress}
 use Rattle.digit_map.specs.declared.progress.Frame.{Frame}
 use Rattle.digit_map.specs.declared.progress.Act.{Act}
-use Rattle.digit_map.specs.declared.progress.Act.TheVariants.{Go, Put, AddDot, OpenSet, Halt, Wrong}
+use Rattle.digit_map.specs.declared.progress.Act.TheVariants.{Go, Put, AddDot, OpenSet, Halt}
 use Rattle.digit_map.specs.Faults.{fault}
 use Rattle.digit_map.specs.Signs.{sign_of}
 use Rattle.digit_map.specs.Nodes.{position, awaiting, count_positions}
 use Rattle.digit_map.specs.Sets.{set_turn}
 use Rattle.digit_map.specs.Fields.{rank, field_turn}
 use Rattle.digit_map.specs.Limits.{Limits}
-use Rattle.digit_map.specs.Acts.{progress, fresh, first_at, needs_by, onward, unless_held, if_held, in_number_lem}
+use Rattle.digit_map.specs.Acts.{wrong, progress, fresh, first_at, needs_by, onward, unless_held, if_held, in_number_lem}
 use Rattle.digit_map.specs.Acts.{has_room, at_dot, at_halt, acts}
 use Rattle.digit_map.specs.Turns.{Spot, in_head, in_field, in_alternative, in_set, closed, State, Turn, on}
-use Rattle.digit_map.specs.Turns.{done, bad, state, start, frame, fault_in_lem, halts, acted, turn_alternative}
+use Rattle.digit_map.specs.Turns.{done, bad, state, start, frame, halts, acted, turn_alternative}
 use Rattle.digit_map.specs.Turns.{turn_head, turn_closed, fielded, in_set_turned, turn_at, turn, run, went}
 use Rattle.digit_map.specs.Continues.{placeless, placeless_all}
 
@@ -60,13 +60,13 @@ bare_turn (on q) = on (bare_state q)
 bare_turn (done t ns) = done t ns
 bare_turn (bad f) = bad (fault f.cause 0 f.alternative)
 
-abbrev bare_act : Act → Act
-bare_act (Go p) = Go (bare_progress p)
-bare_act (Put x p) = Put x (bare_progress p)
-bare_act (AddDot p) = AddDot (bare_progress p)
-bare_act (OpenSet l) = OpenSet l
-bare_act Halt = Halt
-bare_act (Wrong c o) = Wrong c 0
+abbrev bare_act : Result Act Fault → Result Act Fault
+bare_act (Ok (Go p)) = (Ok (Go (bare_progress p)))
+bare_act (Ok (Put x p)) = (Ok (Put x (bare_progress p)))
+bare_act (Ok (AddDot p)) = (Ok (AddDot (bare_progress p)))
+bare_act (Ok (OpenSet l)) = (Ok (OpenSet l))
+bare_act (Ok Halt) = (Ok Halt)
+bare_act (Err e) = Err (fault e.cause 0 e.alternative)
 
 cond_map : {A B : Type 0} (f : A → B) (b : Bool) (x y : A) → cond b (f x) (f y) ≡ f (cond b x y)
 cond_map f true x y = refl
@@ -85,43 +85,43 @@ onward_bare : (p : Progress) (o : ℕ) (m : Mark) (h : Bool) (l : Last) →
     onward (bare_progress p) 0 m h (bare_last l) ≡ bare_progress (onward p o m h l)
 onward_bare p o m h l = onward_by m h p.needs p.first o p.last l
 
-unless_bare : (l : Last) (a : Act) → unless_held (bare_last l) (bare_act a) ≡ bare_act (unless_held l a)
-unless_bare last.Nothing a = refl
-unless_bare last.Mark a = refl
-unless_bare last.Position a = refl
-unless_bare last.Dot a = refl
-unless_bare (last.Hold z) a = refl
+unless_bare : (n : ℕ) (l : Last) (a : Result Act Fault) → unless_held n (bare_last l) (bare_act a) ≡ bare_act (unless_held n l a)
+unless_bare n last.Nothing a = refl
+unless_bare n last.Mark a = refl
+unless_bare n last.Position a = refl
+unless_bare n last.Dot a = refl
+unless_bare n (last.Hold z) a = refl
 
-if_bare : (l : Last) (a b : Act) → if_held (bare_last l) (bare_act a) (bare_act b) ≡ bare_act (if_held l a b)
+if_bare : (l : Last) (a b : Result Act Fault) → if_held (bare_last l) (bare_act a) (bare_act b) ≡ bare_act (if_held l a b)
 if_bare last.Nothing a b = refl
 if_bare last.Mark a b = refl
 if_bare last.Position a b = refl
 if_bare last.Dot a b = refl
 if_bare (last.Hold z) a b = refl
 
-dot_bare : (p : Progress) (o : ℕ) (l : Last) →
-    at_dot (bare_progress p) 0 (bare_last l) ≡ bare_act (at_dot p o l)
-dot_bare p o last.Nothing = refl
-dot_bare p o last.Mark = refl
-dot_bare p o last.Position = refl
-dot_bare p o last.Dot = refl
-dot_bare p o (last.Hold z) = refl
+dot_bare : (n : ℕ) (p : Progress) (o : ℕ) (l : Last) →
+    at_dot n (bare_progress p) 0 (bare_last l) ≡ bare_act (at_dot n p o l)
+dot_bare n p o last.Nothing = refl
+dot_bare n p o last.Mark = refl
+dot_bare n p o last.Position = refl
+dot_bare n p o last.Dot = refl
+dot_bare n p o (last.Hold z) = refl
 
-module _ (p : Progress) (o : ℕ) (here keyless : Bool) where
-  abbrev ended : Act
-  ended = cond here Halt (Wrong cause.Byte o)
+module _ (n : ℕ) (p : Progress) (o : ℕ) (here keyless : Bool) where
+  abbrev ended : Result Act Fault
+  ended = cond here (Ok Halt) (wrong n cause.Byte o)
 
-  ended_bare : cond here Halt (Wrong cause.Byte 0) ≡ bare_act ended
-  ended_bare = cond_map bare_act here Halt (Wrong cause.Byte o)
+  ended_bare : cond here (Ok Halt) (wrong n cause.Byte 0) ≡ bare_act ended
+  ended_bare = cond_map bare_act here (Ok Halt) (wrong n cause.Byte o)
 
-  judged_bare : cond (keyless && not p.needs) (Wrong cause.Keyless 0) (cond here Halt (Wrong cause.Byte 0))
-      ≡ bare_act (cond (keyless && not p.needs) (Wrong cause.Keyless p.first) ended)
+  judged_bare : cond (keyless && not p.needs) (wrong n cause.Keyless 0) (cond here (Ok Halt) (wrong n cause.Byte 0))
+      ≡ bare_act (cond (keyless && not p.needs) (wrong n cause.Keyless p.first) ended)
   judged_bare =
-      ap (cond (keyless && not p.needs) (Wrong cause.Keyless 0)) ended_bare
-      ∙ cond_map bare_act (keyless && not p.needs) (Wrong cause.Keyless p.first) ended
+      ap (cond (keyless && not p.needs) (wrong n cause.Keyless 0)) ended_bare
+      ∙ cond_map bare_act (keyless && not p.needs) (wrong n cause.Keyless p.first) ended
 
   halt_bare : (l : Last) →
-      at_halt (bare_progress p) 0 here keyless (bare_last l) ≡ bare_act (at_halt p o here keyless l)
+      at_halt n (bare_progress p) 0 here keyless (bare_last l) ≡ bare_act (at_halt n p o here keyless l)
   halt_bare last.Nothing = refl
   halt_bare last.Mark = judged_bare
   halt_bare last.Position = ended_bare
@@ -133,25 +133,25 @@ module _ (L : Limits) (f : Frame) (n : ℕ) (p : Progress) (o : ℕ) where
   keys_bare k =
       let q : Progress = onward p o p.mark false last.Position in
       ap
-      (λ w. if_held (bare_last p.last) (Put (position k true false) w)
-      (cond (has_room L f n) (Put (position k false false) w) (Wrong cause.Excess 0)))
+      (λ w. if_held (bare_last p.last) (Ok (Put (position k true false) w))
+      (cond (has_room L f n) (Ok (Put (position k false false) w)) (wrong f.number cause.Excess 0)))
       (onward_bare p o p.mark false last.Position)
-      ∙ (ap (if_held (bare_last p.last) (Put (position k true false) (bare_progress q)))
-      (cond_map bare_act (has_room L f n) (Put (position k false false) q) (Wrong cause.Excess o))
-      ∙ if_bare p.last (Put (position k true false) q) _)
+      ∙ (ap (if_held (bare_last p.last) (Ok (Put (position k true false) (bare_progress q))))
+      (cond_map bare_act (has_room L f n) (Ok (Put (position k false false) q)) (wrong f.number cause.Excess o))
+      ∙ if_bare p.last (Ok (Put (position k true false) q)) _)
 
   -- what may begin only where no Z waits
-  abbrev begun : Progress → Bool → Progress → ℕ → Act
-  begun w r v z = unless_held w.last (cond r (Go v) (Wrong cause.Excess z))
+  abbrev begun : Progress → Bool → Progress → ℕ → Result Act Fault
+  begun w r v z = unless_held f.number w.last (cond r (Ok (Go v)) (wrong f.number cause.Excess z))
 
   begun_bare : (r : Bool) (m : Mark) (h : Bool) (l : Last) →
       begun (bare_progress p) r (onward (bare_progress p) 0 m h (bare_last l)) 0
       ≡ bare_act (begun p r (onward p o m h l) o)
   begun_bare r m h l =
       ap (λ w. begun (bare_progress p) r w 0) (onward_bare p o m h l)
-      ∙ (ap (unless_held (bare_last p.last))
-      (cond_map bare_act r (Go (onward p o m h l)) (Wrong cause.Excess o))
-      ∙ unless_bare p.last _)
+      ∙ (ap (unless_held f.number (bare_last p.last))
+      (cond_map bare_act r (Ok (Go (onward p o m h l))) (wrong f.number cause.Excess o))
+      ∙ unless_bare f.number p.last _)
 
   acts_bare : (s : Sign) → acts L f n (bare_progress p) s 0 ≡ bare_act (acts L f n p s o)
   acts_bare (sign.Keys k) = keys_bare k
@@ -159,24 +159,15 @@ module _ (L : Limits) (f : Frame) (n : ℕ) (p : Progress) (o : ℕ) where
   acts_bare (sign.Field i) = refl
   acts_bare sign.Hold = begun_bare (has_room L f n) p.mark p.marked (last.Hold o)
   acts_bare sign.SetOpen =
-      ap (if_held (bare_last p.last) (OpenSet true))
-      (cond_map bare_act (has_room L f n) (OpenSet false) (Wrong cause.Excess o))
-      ∙ if_bare p.last (OpenSet true) _
-  acts_bare sign.Open = unless_bare p.last (Wrong cause.Byte o)
-  acts_bare sign.Close = halt_bare p o f.bracketed true p.last
-  acts_bare sign.Bar = halt_bare p o f.bracketed true p.last
-  acts_bare sign.Dot = dot_bare p o p.last
-  acts_bare sign.End = halt_bare p o (not f.bracketed) (not f.bracketed) p.last
-  acts_bare sign.Other = unless_bare p.last (Wrong cause.Byte o)
-
-fault_bare : (n : ℕ) (c : Cause) (o : ℕ) → bad (fault_in_lem n c 0) ≡ bare_turn (bad (fault_in_lem n c o))
-fault_bare n cause.Length o = refl
-fault_bare n cause.Head o = refl
-fault_bare n cause.Byte o = refl
-fault_bare n cause.Set o = refl
-fault_bare n cause.Affix o = refl
-fault_bare n cause.Keyless o = refl
-fault_bare n cause.Excess o = refl
+      ap (if_held (bare_last p.last) (Ok (OpenSet true)))
+      (cond_map bare_act (has_room L f n) (Ok (OpenSet false)) (wrong f.number cause.Excess o))
+      ∙ if_bare p.last (Ok (OpenSet true)) _
+  acts_bare sign.Open = unless_bare f.number p.last (wrong f.number cause.Byte o)
+  acts_bare sign.Close = halt_bare f.number p o f.bracketed true p.last
+  acts_bare sign.Bar = halt_bare f.number p o f.bracketed true p.last
+  acts_bare sign.Dot = dot_bare f.number p o p.last
+  acts_bare sign.End = halt_bare f.number p o (not f.bracketed) (not f.bracketed) p.last
+  acts_bare sign.Other = unless_bare f.number p.last (wrong f.number cause.Byte o)
 
 module _ (t : Timers) (ns : List Node) where
   halts_bare : (f : Frame) (s : Sign) → halts t ns f s ≡ bare_turn (halts t ns f s)
@@ -218,14 +209,14 @@ done_bare t ns (bad f) e = let z : ◌≡◌ {A = ℕ} 0 1 = cc in absurd (omega
 
 module _ (L : Limits) where
   module _ (t : Timers) (ns : List Node) (f : Frame) (p : Progress) where
-    acted_bare : (s : Sign) (o : ℕ) (a : Act) →
+    acted_bare : (s : Sign) (o : ℕ) (a : Result Act Fault) →
         acted t ns f (bare_progress p) s 0 (bare_act a) ≡ bare_turn (acted t ns f p s o a)
-    acted_bare s o (Go q) = refl
-    acted_bare s o (Put x q) = refl
-    acted_bare s o (AddDot q) = refl
-    acted_bare s o (OpenSet l) = refl
-    acted_bare s o Halt = halts_bare t _ f s
-    acted_bare s o (Wrong c at) = fault_bare f.number c at
+    acted_bare s o (Ok (Go q)) = refl
+    acted_bare s o (Ok (Put x q)) = refl
+    acted_bare s o (Ok (AddDot q)) = refl
+    acted_bare s o (Ok (OpenSet l)) = refl
+    acted_bare s o (Ok Halt) = halts_bare t _ f s
+    acted_bare s o (Err e) = refl
 
     alternative_bare : (s : Sign) (o : ℕ) →
         turn_alternative L t ns f (bare_progress p) s 0 ≡ bare_turn (turn_alternative L t ns f p s o)

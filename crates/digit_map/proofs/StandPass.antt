@@ -133,4 +133,4 @@ module _ (L : Limits) where
       let j = h.0 in
       ended_pass L s t n ns true (reached (us ++ ending m (is_mark e) ∷ []) x (omega arith) h.1) y z j
       h.1 (Byte 41 c o) [] sign.Close o
-      (ap (acted t (ns ++ us) (frame true n) (behind_elements u us m e) sign.Close o) (may_halt y z o true))
+      (ap (acted t (ns ++ us) (frame true n) (behind_elements u us m e) sign.Close o) (may_halt y z n o true))

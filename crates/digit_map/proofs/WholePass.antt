@@ -1,5 +1,5 @@
 -- Whole texts, and the tokens before a place, are taken as the grammar has them. Assumes nothing.
-use Rattle.std.proofs.Common.{◌≡◌, ℕ, ◌+◌, ◌≤◌, Bool, true, false, cond, not, ◌&&◌, List, [], ◌∷◌, ◌++◌, sym, refl, ap, ◌∙◌, append_assoc, arith}
+use Rattle.std.proofs.Common.{◌≡◌, ℕ, ◌+◌, ◌≤◌, Bool, true, false, cond, not, ◌&&◌, List, [], ◌∷◌, ◌++◌, sym, refl, ap, ◌∙◌, append_assoc, arith, Ok}
 use Rattle.std.proofs.lemmas.Bool.{cond-false, and_right, not_from_true, both_ways}
 use Rattle.std.proofs.lemmas.List.{append-nil}
 use Rattle.keypad.specs.declared.key.Mark.{Mark}
@@ -11,11 +11,11 @@ use Rattle.digit_map.specs.declared.token.Token.{Token}
 use Rattle.digit_map.specs.declared.token.Token.TheVariants.{Byte, End}
 use Rattle.digit_map.specs.declared.node.Node.{Node}
 use Rattle.digit_map.specs.declared.progress.Frame.{Frame}
-use Rattle.digit_map.specs.declared.progress.Act.TheVariants.{Halt, Wrong}
+use Rattle.digit_map.specs.declared.progress.Act.TheVariants.{Halt}
 use Rattle.digit_map.specs.Signs.{sign_of}
 use Rattle.digit_map.specs.Nodes.{ending, needs_key, count_positions}
 use Rattle.digit_map.specs.Limits.{Limits}
-use Rattle.digit_map.specs.Acts.{at_halt, fresh}
+use Rattle.digit_map.specs.Acts.{wrong, at_halt, fresh}
 use Rattle.digit_map.specs.Turns.{State, Turn, on, done, state, start, frame, in_head, in_alternative}
 use Rattle.digit_map.specs.Turns.{turn, turn_head, turn_alternative, acted, halts, run, went}
 use Rattle.digit_map.specs.Grammar as g
@@ -31,19 +31,19 @@ use Rattle.digit_map.proofs.ElementPass.{elements_pass}
 
 -- elements that need a key may end
 pub may_halt : {u : List Token} {us : List Node} {m : Mark} {e : Final} → Elements u us m e →
-    needs_key us ≡ true → (o : ℕ) (judged : Bool) →
-    at_halt (behind_elements u us m e) o true judged (last_of e) ≡ Halt
-may_halt {u = u} {us = us} {m = m} {e = e} x h o judged = by u m e (facts x)
+    needs_key us ≡ true → (k o : ℕ) (judged : Bool) →
+    at_halt k (behind_elements u us m e) o true judged (last_of e) ≡ Ok Halt
+may_halt {u = u} {us = us} {m = m} {e = e} x h k o judged = by u m e (facts x)
   where
     keyed : {A : Type 0} (a b : A) → cond (judged && not (needs_key us)) a b ≡ b
     keyed a b = cond-false _ a b (and_right judged (not (needs_key us)) (not_from_true (needs_key us) h))
 
     by : (u : List Token) (m : Mark) (e : Final) → Facts e u us →
-        at_halt (behind_elements u us m e) o true judged (last_of e) ≡ Halt
+        at_halt k (behind_elements u us m e) o true judged (last_of e) ≡ Ok Halt
     by u m nothing f = absurd (both_ways (needs_key us) (ap needs_key f.1) h)
-    by u m mark f = keyed (Wrong cause.Keyless _) Halt
+    by u m mark f = keyed (wrong k cause.Keyless _) (Ok Halt)
     by u m g.place f = refl
-    by u m dot f = keyed (Wrong cause.Keyless _) Halt
+    by u m dot f = keyed (wrong k cause.Keyless _) (Ok Halt)
 
 -- a token with which an alternative without brackets begins
 pub record First (L : Limits) (u : List Token) : Type 0 where
@@ -166,7 +166,7 @@ module _ (L : Limits) where
       count_positions (ns ++ (us ++ ending m (is_mark e) ∷ [])) ≤ L.positions →
       (x : Token) (v : List Token) (g : Sign) (o : ℕ) →
       turn L (state t (ns ++ us) (in_alternative (frame b n) (behind_elements u us m e))) x
-      ≡ acted t (ns ++ us) (frame b n) (behind_elements u us m e) g o Halt →
+      ≡ acted t (ns ++ us) (frame b n) (behind_elements u us m e) g o (Ok Halt) →
       run L start (s ++ (u ++ x ∷ v)) ≡ went L
       (halts t (ns ++ (us ++ ending m (is_mark e) ∷ [])) (frame b n) g) v
   ended_pass s t n ns b r {us = us} {m = m} {e = e} y z h j x v g o q =
@@ -185,7 +185,7 @@ module _ (L : Limits) where
       let i : count_positions ns ≤ L.positions = let a =
       positions-++ ns (us ++ ending m (is_mark e) ∷ []) in omega arith in
       ended_pass s t n ns true (front_pass x (omega arith) i) y z (omega arith) j (Byte 124 c o) [] sign.Bar o
-      (ap (acted t (ns ++ us) (frame true n) (behind_elements u us m e) sign.Bar o) (may_halt y z o true))
+      (ap (acted t (ns ++ us) (frame true n) (behind_elements u us m e) sign.Bar o) (may_halt y z n o true))
 
   -- a whole text within the limits is read as its map
   pub whole_pass : {ts : List Token} {t : Timers} {ns : List Node} {n : ℕ} → Whole ts t ns n →
@@ -196,10 +196,10 @@ module _ (L : Limits) where
       let i : count_positions ns ≤ L.positions = let a =
       positions-++ ns (us ++ ending m (is_mark e) ∷ []) in omega arith in
       ended_pass s t n ns false (front_pass x (omega arith) i) y z h j (End o) [] sign.End o
-      (ap (acted t (ns ++ us) (frame false n) (behind_elements u us m e) sign.End o) (may_halt y z o true))
+      (ap (acted t (ns ++ us) (frame false n) (behind_elements u us m e) sign.End o) (may_halt y z n o true))
   whole_pass (several {s = s} {u = u} {t = t} {n = n} {ns = ns} x (elements {ns = us} {m = m} {e = e} y z) c
       o p) h j =
       let i : count_positions ns ≤ L.positions = let a =
       positions-++ ns (us ++ ending m (is_mark e) ∷ []) in omega arith in
       ended_pass s t n ns true (front_pass x (omega arith) i) y z h j (Byte 41 c o) (End p ∷ []) sign.Close o
-      (ap (acted t (ns ++ us) (frame true n) (behind_elements u us m e) sign.Close o) (may_halt y z o true))
+      (ap (acted t (ns ++ us) (frame true n) (behind_elements u us m e) sign.Close o) (may_halt y z n o true))

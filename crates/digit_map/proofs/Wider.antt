@@ -1,8 +1,8 @@
 -- Other limits: where no fault has shown none shows, and a fault not of the limits stays. Assumes nothing.
-use Rattle.std.proofs.Common.{◌≡◌, ℕ, ◌≤◌, Bool, false, cond, List, [], sym, refl, ap, ◌∙◌, subst, arith}
+use Rattle.std.proofs.Common.{◌≡◌, ℕ, ◌≤◌, Bool, false, cond, List, [], sym, refl, ap, subst, arith, Ok, Err, Result}
 use Rattle.std.proofs.lemmas.Bool.{cond_both}
 use Rattle.keypad.specs.declared.timers.Timers.{Timers}
-use Rattle.digit_map.specs.declared.fault.Cause.{Cause}
+use Rattle.digit_map.specs.declared.fault.Fault.{Fault}
 use Rattle.digit_map.specs.declared.fault.Cause.TheVariants as cause
 use Rattle.digit_map.specs.declared.sign.Sign.{Sign}
 use Rattle.digit_map.specs.declared.sign.Sign.TheVariants as sign
@@ -14,13 +14,13 @@ use Rattle.digit_map.specs.declared.progress.Last.TheVariants as last
 use Rattle.digit_map.specs.declared.progress.Progress.{Progress}
 use Rattle.digit_map.specs.declared.progress.Frame.{Frame}
 use Rattle.digit_map.specs.declared.progress.Act.{Act}
-use Rattle.digit_map.specs.declared.progress.Act.TheVariants.{Go, Put, AddDot, OpenSet, Halt, Wrong}
+use Rattle.digit_map.specs.declared.progress.Act.TheVariants.{Go, Put, AddDot, OpenSet, Halt}
 use Rattle.digit_map.specs.Signs.{sign_of}
 use Rattle.digit_map.specs.Nodes.{count_positions}
 use Rattle.digit_map.specs.Limits.{Limits}
-use Rattle.digit_map.specs.Acts.{fresh, unless_held, if_held, in_number_lem, has_room, acts}
+use Rattle.digit_map.specs.Acts.{wrong, fresh, unless_held, if_held, in_number_lem, has_room, acts}
 use Rattle.digit_map.specs.Turns.{Spot, in_head, in_field, in_alternative, in_set, closed, Turn, on, done}
-use Rattle.digit_map.specs.Turns.{bad, frame, fault_in_lem, acted, turn_alternative, turn_head, turn_at}
+use Rattle.digit_map.specs.Turns.{bad, frame, acted, turn_alternative, turn_head, turn_at}
 use Rattle.digit_map.specs.Standing.{InLimits, Limited}
 
 module _ (L M : Limits) (h : L.alternatives ≤ M.alternatives) (k : L.positions ≤ M.positions) where
@@ -50,57 +50,48 @@ firm_same (done t ns) = tt
 firm_same (bad f) = λ h. refl
 
 -- so of what a sign does, where an alternative's end stays too
-abbrev FirmAct : Act → Act → Type 0
-FirmAct (Go p) y = Unit {0}
-FirmAct (Put x p) y = Unit {0}
-FirmAct (AddDot p) y = Unit {0}
-FirmAct (OpenSet l) y = Unit {0}
-FirmAct Halt y = y ≡ Halt
-FirmAct (Wrong c o) y = (c ≡ cause.Excess → ⊥) → y ≡ Wrong c o
+abbrev FirmAct : Result Act Fault → Result Act Fault → Type 0
+FirmAct (Ok (Go p)) y = Unit {0}
+FirmAct (Ok (Put x p)) y = Unit {0}
+FirmAct (Ok (AddDot p)) y = Unit {0}
+FirmAct (Ok (OpenSet l)) y = Unit {0}
+FirmAct (Ok Halt) y = y ≡ Ok Halt
+FirmAct (Err e) y = (e.cause ≡ cause.Excess → ⊥) → y ≡ Err e
 
-act_same : (a : Act) → FirmAct a a
-act_same (Go p) = tt
-act_same (Put x p) = tt
-act_same (AddDot p) = tt
-act_same (OpenSet l) = tt
-act_same Halt = refl
-act_same (Wrong c o) = λ h. refl
+act_same : (a : Result Act Fault) → FirmAct a a
+act_same (Ok (Go p)) = tt
+act_same (Ok (Put x p)) = tt
+act_same (Ok (AddDot p)) = tt
+act_same (Ok (OpenSet l)) = tt
+act_same (Ok Halt) = refl
+act_same (Err e) = λ h. refl
 
-room_firm : (r : Bool) (a : Act) (o : ℕ) (y : Act) → FirmAct a y → FirmAct (cond r a (Wrong cause.Excess o)) y
-room_firm r a o y h =
-    cond_both r a (Wrong cause.Excess o) (λ v. FirmAct v y) (λ e. h) (λ e k. absurd (k refl))
+room_firm : (n : ℕ) (r : Bool) (a : Result Act Fault) (o : ℕ) (y : Result Act Fault) → FirmAct a y → FirmAct (cond r a (wrong n cause.Excess o)) y
+room_firm n r a o y h =
+    cond_both r a (wrong n cause.Excess o) (λ v. FirmAct v y) (λ e. h) (λ e k. absurd (k refl))
 
-unless_firm : (l : Last) (a b : Act) → FirmAct a b → FirmAct (unless_held l a) (unless_held l b)
-unless_firm last.Nothing a b h = h
-unless_firm last.Mark a b h = h
-unless_firm last.Position a b h = h
-unless_firm last.Dot a b h = h
-unless_firm (last.Hold z) a b h = λ e. refl
+unless_firm : (n : ℕ) (l : Last) (a b : Result Act Fault) → FirmAct a b → FirmAct (unless_held n l a) (unless_held n l b)
+unless_firm n last.Nothing a b h = h
+unless_firm n last.Mark a b h = h
+unless_firm n last.Position a b h = h
+unless_firm n last.Dot a b h = h
+unless_firm n (last.Hold z) a b h = λ e. refl
 
-if_firm : (l : Last) (x a b : Act) → FirmAct a b → FirmAct (if_held l x a) (if_held l x b)
+if_firm : (l : Last) (x a b : Result Act Fault) → FirmAct a b → FirmAct (if_held l x a) (if_held l x b)
 if_firm last.Nothing x a b h = h
 if_firm last.Mark x a b h = h
 if_firm last.Position x a b h = h
 if_firm last.Dot x a b h = h
 if_firm (last.Hold z) x a b h = act_same x
 
-cause_kept : (n : ℕ) (c : Cause) (o : ℕ) → (fault_in_lem n c o).cause ≡ c
-cause_kept n cause.Length o = refl
-cause_kept n cause.Head o = refl
-cause_kept n cause.Byte o = refl
-cause_kept n cause.Set o = refl
-cause_kept n cause.Affix o = refl
-cause_kept n cause.Keyless o = refl
-cause_kept n cause.Excess o = refl
-
 module _ (L M : Limits) where
   acts_firm : (f : Frame) (n : ℕ) (p : Progress) (s : Sign) (o : ℕ) →
       FirmAct (acts L f n p s o) (acts M f n p s o)
-  acts_firm f n p (sign.Keys k) o = if_firm p.last _ _ _ (room_firm (has_room L f n) _ o _ tt)
-  acts_firm f n p (sign.Timer m) o = unless_firm p.last _ _ (room_firm (in_number_lem L f) _ o _ tt)
+  acts_firm f n p (sign.Keys k) o = if_firm p.last _ _ _ (room_firm f.number (has_room L f n) _ o _ tt)
+  acts_firm f n p (sign.Timer m) o = unless_firm f.number p.last _ _ (room_firm f.number (in_number_lem L f) _ o _ tt)
   acts_firm f n p (sign.Field i) o = λ h. refl
-  acts_firm f n p sign.Hold o = unless_firm p.last _ _ (room_firm (has_room L f n) _ o _ tt)
-  acts_firm f n p sign.SetOpen o = if_firm p.last _ _ _ (room_firm (has_room L f n) _ o _ tt)
+  acts_firm f n p sign.Hold o = unless_firm f.number p.last _ _ (room_firm f.number (has_room L f n) _ o _ tt)
+  acts_firm f n p sign.SetOpen o = if_firm p.last _ _ _ (room_firm f.number (has_room L f n) _ o _ tt)
   acts_firm f n p sign.Open o = act_same (acts L f n p sign.Open o)
   acts_firm f n p sign.Close o = act_same (acts L f n p sign.Close o)
   acts_firm f n p sign.Bar o = act_same (acts L f n p sign.Bar o)
@@ -109,16 +100,16 @@ module _ (L M : Limits) where
   acts_firm f n p sign.Other o = act_same (acts L f n p sign.Other o)
 
   module _ (t : Timers) (ns : List Node) (f : Frame) (p : Progress) (s : Sign) (o : ℕ) where
-    abbrev does : Act → Turn
+    abbrev does : Result Act Fault → Turn
     does = acted t ns f p s o
 
-    acted_firm : (a b : Act) → FirmAct a b → Firm (does a) (does b)
-    acted_firm (Go q) b h = tt
-    acted_firm (Put x q) b h = tt
-    acted_firm (AddDot q) b h = tt
-    acted_firm (OpenSet l) b h = tt
-    acted_firm Halt b h = subst (Firm (does Halt)) (ap does (sym h)) (firm_same (does Halt))
-    acted_firm (Wrong c at) b h = λ k. ap does (h (λ e. k (cause_kept f.number c at ∙ e)))
+    acted_firm : (a b : Result Act Fault) → FirmAct a b → Firm (does a) (does b)
+    acted_firm (Ok (Go q)) b h = tt
+    acted_firm (Ok (Put x q)) b h = tt
+    acted_firm (Ok (AddDot q)) b h = tt
+    acted_firm (Ok (OpenSet l)) b h = tt
+    acted_firm (Ok Halt) b h = subst (Firm (does (Ok Halt))) (ap does (sym h)) (firm_same (does (Ok Halt)))
+    acted_firm (Err e) b h = λ k. ap does (h k)
 
     alternative_firm : Firm (turn_alternative L t ns f p s o) (turn_alternative M t ns f p s o)
     alternative_firm = acted_firm _ _ (acts_firm f (count_positions ns) p s o)

@@ -1,8 +1,7 @@
 -- A text read token by token. Assumes nothing.
-use Rattle.std.specs.Prelude.{ℕ, ◌+◌, Bool, true, false, cond, List, [], ◌∷◌, ◌++◌, Some, None, Option, nat_le}
+use Rattle.std.specs.Prelude.{ℕ, ◌+◌, Bool, true, false, cond, List, [], ◌∷◌, ◌++◌, Some, None, Option, Ok, Err, Result, nat_le}
 use Rattle.keypad.specs.declared.timers.Timers.{Timers}
 use Rattle.keypad.specs.Timing.{standard}
-use Rattle.digit_map.specs.declared.fault.Cause.{Cause}
 use Rattle.digit_map.specs.declared.fault.Cause.TheVariants as cause
 use Rattle.digit_map.specs.declared.fault.Fault.{Fault}
 use Rattle.digit_map.specs.declared.sign.Field.{Field}
@@ -23,7 +22,7 @@ use Rattle.digit_map.specs.declared.progress.Last.TheVariants as last
 use Rattle.digit_map.specs.declared.progress.Progress.{Progress}
 use Rattle.digit_map.specs.declared.progress.Frame.{Frame}
 use Rattle.digit_map.specs.declared.progress.Act.{Act}
-use Rattle.digit_map.specs.declared.progress.Act.TheVariants.{Go, Put, AddDot, OpenSet, Halt, Wrong}
+use Rattle.digit_map.specs.declared.progress.Act.TheVariants.{Go, Put, AddDot, OpenSet, Halt}
 use Rattle.digit_map.specs.Faults.{fault}
 use Rattle.digit_map.specs.Signs.{sign_of}
 use Rattle.digit_map.specs.Nodes.{position, awaiting, ending, count_positions, dot_last_lem}
@@ -63,16 +62,6 @@ start = state standard [] (in_head 0)
 abbrev pub frame : Bool → ℕ → Frame
 frame b n = record { bracketed = b; number = n }
 
--- a fault of the head has no alternative
-abbrev pub fault_in_lem : ℕ → Cause → ℕ → Fault
-fault_in_lem n cause.Length o = fault cause.Length o 0
-fault_in_lem n cause.Head o = fault cause.Head o 0
-fault_in_lem n cause.Byte o = fault cause.Byte o n
-fault_in_lem n cause.Set o = fault cause.Set o n
-fault_in_lem n cause.Affix o = fault cause.Affix o n
-fault_in_lem n cause.Keyless o = fault cause.Keyless o n
-fault_in_lem n cause.Excess o = fault cause.Excess o n
-
 -- outside sets and fields: a token by its sign, in alternative n
 abbrev pub by_sign : ℕ → (Sign → ℕ → Turn) → Token → Turn
 by_sign n f (token.Byte b c o) = f (sign_of b c) o
@@ -99,13 +88,13 @@ halts t ns f sign.Dot = done t ns
 halts t ns f sign.End = done t ns
 halts t ns f sign.Other = done t ns
 
-abbrev pub acted : Timers → List Node → Frame → Progress → Sign → ℕ → Act → Turn
-acted t ns f p s o (Go q) = on (state t ns (in_alternative f q))
-acted t ns f p s o (Put x q) = on (state t (ns ++ awaiting x p.mark p.marked ∷ []) (in_alternative f q))
-acted t ns f p s o (AddDot q) = on (state t (dot_last_lem ns) (in_alternative f q))
-acted t ns f p s o (OpenSet l) = on (state t ns (in_set f p l o place.Start 0))
-acted t ns f p s o Halt = halts t (ns ++ ending p.mark p.marked ∷ []) f s
-acted t ns f p s o (Wrong c at) = bad (fault_in_lem f.number c at)
+abbrev pub acted : Timers → List Node → Frame → Progress → Sign → ℕ → Result Act Fault → Turn
+acted t ns f p s o (Ok (Go q)) = on (state t ns (in_alternative f q))
+acted t ns f p s o (Ok (Put x q)) = on (state t (ns ++ awaiting x p.mark p.marked ∷ []) (in_alternative f q))
+acted t ns f p s o (Ok (AddDot q)) = on (state t (dot_last_lem ns) (in_alternative f q))
+acted t ns f p s o (Ok (OpenSet l)) = on (state t ns (in_set f p l o place.Start 0))
+acted t ns f p s o (Ok Halt) = halts t (ns ++ ending p.mark p.marked ∷ []) f s
+acted t ns f p s o (Err e) = bad e
 
 abbrev pub turn_alternative : Limits → Timers → List Node → Frame → Progress → Sign → ℕ → Turn
 turn_alternative L t ns f p s o = acted t ns f p s o (acts L f (count_positions ns) p s o)

@@ -3,7 +3,6 @@ ghost use Rattle.digit_map.specs.Nodes.{count_positions, count_ends};
 ghost use Rattle.digit_map.specs.Drafts.{drafted};
 ghost use Rattle.digit_map.specs.Limits.{sale};
 ghost use Rattle.digit_map.specs.Acts.{acts, fresh, onward, at_dot, at_halt};
-ghost use Rattle.digit_map.specs.Turns.{fault_in_lem};
 ghost use Rattle.digit_map.specs.Rooms.{Room, RoomFor};
 ghost use Rattle.digit_map.specs.Reads.{sign_at, AlternativeRead, ClosedRead, AlternativesRead};
 ghost use Rattle.digit_map.specs.Readers.{SamePart, placed};
@@ -23,29 +22,8 @@ fn token_sign(token: Token, alternative: u8) -> Result<(Sign, usize), Fault>
 {
     match token {
         Token::Byte(byte, colon, at) => Ok((read_byte(byte, colon), at)),
-        Token::Gap(at) => Err(Fault {
-            cause: Cause::Byte,
-            offset: at,
-            alternative,
-        }),
+        Token::Gap(at) => Err(Cause::Byte.at(at, alternative)),
         Token::End(at) => Ok((Sign::End, at)),
-    }
-}
-
-fn fault_in(alternative: u8, cause: Cause, offset: usize) -> Fault
-    ensures { result ≡ fault_in_lem alternative cause offset }
-{
-    match cause {
-        Cause::Length | Cause::Head => Fault {
-            cause,
-            offset,
-            alternative: 0,
-        },
-        _ => Fault {
-            cause,
-            offset,
-            alternative,
-        },
     }
 }
 
@@ -83,84 +61,90 @@ fn go_on(progress: Progress, at: usize, mark: Mark, marked: bool, last: Last) ->
     }
 }
 
-// Where an alternative may end, if `here`; with `judged`, one that needs no key is at fault as such.
-fn halt(progress: Progress, at: usize, here: bool, judged: bool) -> Act
-    ensures { result ≡ at_halt progress at here judged progress.last }
+// Where alternative `number` may end, if `here`; with `judged`, one that needs no key is at fault as such.
+fn halt(number: u8, progress: Progress, at: usize, here: bool, judged: bool) -> Result<Act, Fault>
+    ensures { result ≡ at_halt number progress at here judged progress.last }
 {
     match progress.last {
-        Last::Nothing => Act::Wrong(Cause::Byte, at),
-        Last::Hold(z) => Act::Wrong(Cause::Affix, z),
-        Last::Mark | Last::Dot if judged && !progress.needs => Act::Wrong(
-            Cause::Keyless,
-            progress.first,
-        ),
-        _ if here => Act::Halt,
-        _ => Act::Wrong(Cause::Byte, at),
+        Last::Nothing => Err(Cause::Byte.at(at, number)),
+        Last::Hold(z) => Err(Cause::Affix.at(z, number)),
+        Last::Mark | Last::Dot if judged && !progress.needs => {
+            Err(Cause::Keyless.at(progress.first, number))
+        }
+        _ if here => Ok(Act::Halt),
+        _ => Err(Cause::Byte.at(at, number)),
     }
 }
 
 // A dot belongs right behind a position.
-fn dot(progress: Progress, at: usize) -> Act
-    ensures { result ≡ at_dot progress at progress.last }
+fn dot(number: u8, progress: Progress, at: usize) -> Result<Act, Fault>
+    ensures { result ≡ at_dot number progress at progress.last }
 {
     match progress.last {
-        Last::Position => Act::AddDot(Progress {
+        Last::Position => Ok(Act::AddDot(Progress {
             marked: false,
             last: Last::Dot,
             ..progress
-        }),
-        Last::Hold(z) => Act::Wrong(Cause::Affix, z),
-        _ => Act::Wrong(Cause::Affix, at),
+        })),
+        Last::Hold(z) => Err(Cause::Affix.at(z, number)),
+        _ => Err(Cause::Affix.at(at, number)),
     }
 }
 
 // What a sign does, where `positions` positions stand before it.
-fn act(frame: Frame, positions: usize, progress: Progress, sign: Sign, at: usize) -> Act
+fn act(
+    frame: Frame,
+    positions: usize,
+    progress: Progress,
+    sign: Sign,
+    at: usize,
+) -> Result<Act, Fault>
     requires { Room frame.number positions progress.last }
     ensures value { result ≡ acts sale frame positions progress sign at }
     ensures room { RoomFor frame.number positions result }
 {
-    let in_number = frame.number <= 64;
+    let number = frame.number;
+    let in_number = number <= 64;
     let has_room = in_number && positions < 255;
     let placed = go_on(progress, at, progress.mark, false, Last::Position);
     match (progress.last, sign) {
-        (Last::Hold(_), Sign::Keys(keys)) => Act::Put(
+        (Last::Hold(_), Sign::Keys(keys)) => Ok(Act::Put(
             Position {
                 keys,
                 long: true,
                 dotted: false,
             },
             placed,
-        ),
-        (Last::Hold(_), Sign::SetOpen) => Act::OpenSet(true),
-        (Last::Hold(_), Sign::Field(_)) => Act::Wrong(Cause::Head, at),
-        (Last::Hold(z), _) => Act::Wrong(Cause::Affix, z),
-        (_, Sign::Keys(keys)) if has_room => Act::Put(
+        )),
+        (Last::Hold(_), Sign::SetOpen) => Ok(Act::OpenSet(true)),
+        (_, Sign::Field(_)) => Err(Cause::Head.at(at, number)),
+        (Last::Hold(z), _) => Err(Cause::Affix.at(z, number)),
+        (_, Sign::Keys(keys)) if has_room => Ok(Act::Put(
             Position {
                 keys,
                 long: false,
                 dotted: false,
             },
             placed,
-        ),
-        (_, Sign::SetOpen) if has_room => Act::OpenSet(false),
-        (_, Sign::Hold) if has_room => Act::Go(go_on(
+        )),
+        (_, Sign::SetOpen) if has_room => Ok(Act::OpenSet(false)),
+        (_, Sign::Hold) if has_room => Ok(Act::Go(go_on(
             progress,
             at,
             progress.mark,
             progress.marked,
             Last::Hold(at),
-        )),
-        (_, Sign::Timer(mark)) if in_number => Act::Go(go_on(progress, at, mark, true, Last::Mark)),
-        (_, Sign::Keys(_) | Sign::SetOpen | Sign::Hold | Sign::Timer(_)) => Act::Wrong(
-            Cause::Excess,
-            at,
-        ),
-        (_, Sign::Dot) => dot(progress, at),
-        (_, Sign::Bar | Sign::Close) => halt(progress, at, frame.bracketed, true),
-        (_, Sign::End) => halt(progress, at, !frame.bracketed, !frame.bracketed),
-        (_, Sign::Field(_)) => Act::Wrong(Cause::Head, at),
-        (_, Sign::Open | Sign::Other) => Act::Wrong(Cause::Byte, at),
+        ))),
+        (_, Sign::Timer(mark)) if in_number => {
+            Ok(Act::Go(go_on(progress, at, mark, true, Last::Mark)))
+        }
+        (_, Sign::Keys(_) | Sign::SetOpen | Sign::Hold | Sign::Timer(_)) => {
+            Err(Cause::Excess.at(at, number))
+        }
+        (_, Sign::Dot) => dot(number, progress, at),
+        (_, Sign::Bar | Sign::Close) => halt(number, progress, at, frame.bracketed, true),
+        (_, Sign::End) => halt(number, progress, at, !frame.bracketed, !frame.bracketed),
+        (_, Sign::Open | Sign::Other) => Err(Cause::Byte.at(at, number)),
     }
 }
 
@@ -177,7 +161,8 @@ impl Reader<'_> {
         let mut progress = nothing_read();
         'signs: loop {
             let (sign, at) = token_sign(self.next(), frame.number)?;
-            match act(frame, draft.positions(), progress, sign, at) {
+            let turn = act(frame, draft.positions(), progress, sign, at)?;
+            match turn {
                 Act::Go(next) => progress = next,
                 Act::Put(position, next) => {
                     draft.put(position, progress.mark, progress.marked);
@@ -204,7 +189,6 @@ impl Reader<'_> {
                     draft.end(progress.mark, progress.marked);
                     return Ok(sign);
                 }
-                Act::Wrong(cause, offset) => return Err(fault_in(frame.number, cause, offset)),
             }
         }
     }
@@ -216,21 +200,9 @@ impl Reader<'_> {
         let (sign, at) = token_sign(self.next(), alternative)?;
         match sign {
             Sign::End => Ok(()),
-            Sign::Field(_) => Err(Fault {
-                cause: Cause::Head,
-                offset: at,
-                alternative: 0,
-            }),
-            Sign::Dot => Err(Fault {
-                cause: Cause::Affix,
-                offset: at,
-                alternative,
-            }),
-            _ => Err(Fault {
-                cause: Cause::Byte,
-                offset: at,
-                alternative,
-            }),
+            Sign::Field(_) => Err(Cause::Head.at(at, alternative)),
+            Sign::Dot => Err(Cause::Affix.at(at, alternative)),
+            _ => Err(Cause::Byte.at(at, alternative)),
         }
     }
 }

@@ -97,11 +97,7 @@ impl Reader<'_> {
         ensures reads { FieldRead self.old.text.now self.old.base self.old.cursor field letter
             (placed result self.new.cursor) }
     {
-        let ill_formed = Fault {
-            cause: Cause::Head,
-            offset: letter,
-            alternative: 0,
-        };
+        let ill_formed = Cause::Head.at(letter, 1);
         let mut digits = Digits::Letter;
         'bytes: loop {
             let byte = token_byte(self.next(), 1, ill_formed)?;

@@ -2,6 +2,7 @@
 #![tactic(auto)]
 
 mod alternative;
+mod blame;
 mod blank;
 pub mod draft;
 pub mod fault;

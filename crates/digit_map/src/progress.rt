@@ -1,4 +1,3 @@
-use crate::fault::Cause;
 use crate::node::Position;
 use keypad::key::Mark;
 
@@ -31,7 +30,7 @@ pub struct Frame {
     pub number: u8,
 }
 
-// What a sign does to an alternative's reader.
+// What a sign that may stand there does to an alternative's reader.
 #[derive(Clone, Copy)]
 pub enum Act {
     Go(Progress),
@@ -39,5 +38,4 @@ pub enum Act {
     AddDot(Progress),
     OpenSet(bool),
     Halt,
-    Wrong(Cause, usize),
 }

@@ -13,11 +13,7 @@ fn read_text(text: &[u8]) -> Result<Draft, Fault>
     ensures { DraftRead text.now result }
 {
     if text.is_empty() || text.len() > 2048 {
-        return Err(Fault {
-            cause: Cause::Length,
-            offset: 0,
-            alternative: 0,
-        });
+        return Err(Cause::Length.at(0, 1));
     }
     let (timers, head) = read_head(text)?;
     let mut draft = Draft::begin(timers);

@@ -64,11 +64,7 @@ pub(crate) fn token_byte(token: Token, alternative: u8, unfinished: Fault) -> Re
 {
     match token {
         Token::Byte(byte, _, _) => Ok(byte),
-        Token::Gap(at) => Err(Fault {
-            cause: Cause::Byte,
-            offset: at,
-            alternative,
-        }),
+        Token::Gap(at) => Err(Cause::Byte.at(at, alternative)),
         Token::End(_) => Err(unfinished),
     }
 }
@@ -80,11 +76,7 @@ impl Reader<'_> {
         ensures reads { SetRead self.old.text.now self.old.base self.old.cursor opened alternative
             (placed result self.new.cursor) }
     {
-        let unread = Fault {
-            cause: Cause::Set,
-            offset: opened,
-            alternative,
-        };
+        let unread = Cause::Set.at(opened, alternative);
         let mut keys: u16 = 0;
         let mut place = Place::Start;
         'bytes: loop {
