@@ -16,6 +16,11 @@ rank Short = 1
 rank Long = 2
 rank Hold = 3
 
+-- the least place in that order that a field behind the last one has
+abbrev pub least_behind : Option Field → ℕ
+least_behind None = 0
+least_behind (Some f) = rank f + 1
+
 -- only T may be 0
 abbrev pub fits : Field → ℕ → Bool
 fits Start v = true

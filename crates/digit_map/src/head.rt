@@ -1,5 +1,5 @@
 ghost use Rattle.std.specs.Prelude.{◌≡◌, ◌+◌, ◌^◌, ◌<◌, ◌≤◌, length};
-ghost use Rattle.digit_map.specs.Fields.{rank, fits, timed, field_turn, SoundDigits, SoundField};
+ghost use Rattle.digit_map.specs.Fields.{least_behind, fits, timed, field_turn, SoundDigits, SoundField};
 ghost use Rattle.digit_map.specs.Reads.{FieldRead, HeadRead, next_field};
 ghost use Rattle.digit_map.specs.Readers.{SamePart, placed};
 
@@ -24,18 +24,6 @@ pub enum Digits {
 pub enum FieldTurn {
     On(Digits),
     Done(u8),
-}
-
-// The place of a field in the order of the head.
-fn order(field: Field) -> u8
-    ensures { result ≡ rank field }
-{
-    match field {
-        Field::Start => 0,
-        Field::Short => 1,
-        Field::Long => 2,
-        Field::Hold => 3,
-    }
 }
 
 // Only T may be 0.
@@ -109,16 +97,15 @@ impl Reader<'_> {
     }
 }
 
-// The field that a token begins, with its letter's offset, if it is not one before the field numbered
-// `least`.
-fn field_from(token: Token, least: u8) -> Option<(Field, usize)>
-    ensures { result ≡ next_field least token }
+// The field that a token begins, with its letter's offset, if it belongs behind the last one.
+fn field_from(token: Token, last: Option<Field>) -> Option<(Field, usize)>
+    ensures { result ≡ next_field (least_behind last) token }
 {
     let Token::Byte(byte, colon, at) = token else {
         return None;
     };
     match read_byte(byte, colon) {
-        Sign::Field(field) if least <= order(field) => Some((field, at)),
+        Sign::Field(field) if last < Some(field) => Some((field, at)),
         _ => None,
     }
 }
@@ -128,16 +115,16 @@ pub(crate) fn read_head(text: &[u8]) -> Result<(Timers, usize), Fault>
     ensures { HeadRead text.now result }
 {
     let mut timers = standard_timers();
-    let mut least: u8 = 0;
+    let mut last = None;
     let mut reader = Reader::begin(text, 0, false);
     'fields: loop {
         let mut ahead = reader;
-        let Some((field, letter)) = field_from(ahead.next(), least) else {
+        let Some((field, letter)) = field_from(ahead.next(), last) else {
             return Ok((timers, reader.cursor.at));
         };
         let value = ahead.field(field, letter)?;
         timers = with_field(timers, field, value);
-        least = order(field) + 1;
+        last = Some(field);
         reader = ahead;
     }
 }

@@ -4,7 +4,7 @@ ghost use Rattle.digit_map.specs.Signs.{sign_of};
 use keypad::key::Mark;
 
 // The fields of a head, in their order: T, S, L and Z.
-#[derive(Clone, Copy)]
+#[derive(Clone, Copy, PartialEq, Eq, PartialOrd, Ord)]
 pub enum Field {
     Start,
     Short,

@@ -1,7 +1,12 @@
 use Rattle.std.proofs.Common.{◌∙◌}
 use Rattle.std.proofs.lemmas.Result.{err_from_is_err_and}
-use Rattle.digit_map.proofs.HeadRuns.{head_bad, head_on}
+use Rattle.digit_map.proofs.HeadRuns.{head_ends, head_bad, head_on}
 use Rattle.digit_map.proofs.head.read_head.Goals as goal
+
+pub returns-in_default : goal.returns-in_default
+returns-in_default c =
+    let i = c.fields.invariant in
+    head_ends i.head (rw (i.text, i.base) at c.next.ensures.reads) c.in_default.ensures
 
 pub returns-in_err-value : goal.returns-in_err-value
 returns-in_err-value c =
@@ -22,6 +27,6 @@ fields-preserved c =
     record {
       text = s.same.text ∙ t;
       base = s.same.base ∙ b;
-      head = rw (c.with_field-timers.ensures, c.order-least.ensures)
+      head = rw c.with_field-timers.ensures
           (head_on i.head n c.in-Some.ensures (rw (t, b) at s.reads));
     }

@@ -1,4 +1,5 @@
 use Rattle.std.proofs.Common.{◌≡◌, ◌-◌, length}
+use Rattle.digit_map.specs.Fields.{least_behind}
 use Rattle.digit_map.proofs.HeadRuns.{HeadUpTo}
 use Rattle.digit_map.proofs.head.read_head.Given as goal
 
@@ -6,7 +7,7 @@ abbrev pub invariant-fields : goal.invariant-fields
 invariant-fields l = record {
   text : l.reader.text.now ≡ l.text;
   base : l.reader.base ≡ 0;
-  head : HeadUpTo l.text l.timers l.least l.reader.cursor;
+  head : HeadUpTo l.text l.timers (least_behind l.last) l.reader.cursor;
 }
 
 abbrev pub decreases-fields : goal.decreases-fields
