@@ -5,6 +5,7 @@ ghost use Rattle.digit_map.specs.Readers.{SamePart, placed};
 
 use crate::fault::{Cause, Fault};
 use crate::reader::Reader;
+use crate::sign::key_of_letter;
 use crate::token::Token;
 
 // Where a set's reader stands: before its first member, behind a member, behind a digit that may begin a
@@ -51,8 +52,9 @@ fn turn_set(place: Place, keys: u16, byte: u8) -> Option<SetTurn>
         (Place::From(_), _) => None,
         (Place::Digit(low), b'-') => Some(SetTurn::On(Place::From(low), keys)),
         (_, b'0'..=b'9') => Some(SetTurn::On(Place::Digit(byte - b'0'), keys)),
-        (_, b'A'..=b'F') => Some(SetTurn::On(Place::Member, keys | 1 << (byte - b'A' + 10))),
-        (_, b'a'..=b'f') => Some(SetTurn::On(Place::Member, keys | 1 << (byte - b'a' + 10))),
+        (_, b'A'..=b'F' | b'a'..=b'f') => {
+            Some(SetTurn::On(Place::Member, keys | 1 << key_of_letter(byte)))
+        }
         (Place::Member | Place::Digit(_), b']') => Some(SetTurn::Done(keys)),
         _ => None,
     }

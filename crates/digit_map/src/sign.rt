@@ -1,4 +1,5 @@
-ghost use Rattle.std.specs.Prelude.{◌≡◌};
+ghost use Rattle.std.specs.Prelude.{◌≡◌, true};
+ghost use Rattle.digit_map.specs.Bytes.{key_letter_lem, letter_key};
 ghost use Rattle.digit_map.specs.Signs.{sign_of};
 
 use keypad::key::Mark;
@@ -28,14 +29,21 @@ pub enum Sign {
     Other,
 }
 
+// The key that a letter A to F writes, in either case.
+pub(crate) fn key_of_letter(letter: u8) -> u8
+    requires { key_letter_lem letter ≡ true }
+    ensures { result ≡ letter_key letter }
+{
+    letter.to_ascii_uppercase() - b'A' + 10
+}
+
 // `colon` says that the next byte that is no blank is a colon.
 pub fn read_byte(byte: u8, colon: bool) -> Sign
     ensures { result ≡ sign_of byte colon }
 {
     match byte {
         b'0'..=b'9' => Sign::Keys(1 << (byte - b'0')),
-        b'A'..=b'F' => Sign::Keys(1 << (byte - b'A' + 10)),
-        b'a'..=b'f' => Sign::Keys(1 << (byte - b'a' + 10)),
+        b'A'..=b'F' | b'a'..=b'f' => Sign::Keys(1 << key_of_letter(byte)),
         b'x' | b'X' => Sign::Keys(0x3ff),
         b'T' | b't' if colon => Sign::Field(Field::Start),
         b'S' | b's' if colon => Sign::Field(Field::Short),
