@@ -1,5 +1,5 @@
 -- The run over an alternative, token by token. Assumes nothing.
-use Rattle.std.proofs.Common.{◌≡◌, ℕ, ◌+◌, ◌-◌, ◌<◌, ◌≤◌, Bool, true, false, not, List, [], ◌∷◌, ◌++◌, length, Ok, Err, Result, sym, refl, ap, ◌∙◌, subst, arith}
+use Rattle.std.proofs.Common.{◌≡◌, ℕ, ◌+◌, ◌<◌, ◌≤◌, Bool, true, false, not, List, [], ◌∷◌, ◌++◌, length, Ok, Err, Result, sym, refl, ap, ◌∙◌, subst, arith}
 use Rattle.keypad.specs.declared.timers.Timers.{Timers}
 use Rattle.digit_map.specs.declared.fault.Fault.{Fault}
 use Rattle.digit_map.specs.declared.sign.Sign.{Sign}
@@ -237,13 +237,6 @@ module _ {text : List ℕ} {base : ℕ} {c : Cursor} {f : Frame} {m : Draft} {b 
         let u = moved (Ok (OpenSet l)) e refl in let a = r.0 in
         pushed (position keys l false) (onward p o p.mark false last.Position) v d (omega arith) r.1 n
         (h.0, omega (arith, h.1)) t (goes_by (Ok (OpenSet l)) e refl ∙ r.2 m.timers (drafted w) f p l refl)
-
-    pub alternative_set_less : length text - d.at < length text - b.at
-    alternative_set_less = let u = moved (Ok (OpenSet l)) e refl in let a = r.0 in let h = r.1 in omega arith
-
-  pub alternative_wrong : (v : Draft) {e : Fault} → Err e ≡ acts sale f count p s o
-      → AlternativeRead text base c f m v (Err e)
-  alternative_wrong v {e} h = acted_by (Err e) h
 
   pub alternative_halt : (v : Draft) → Ok Halt ≡ acts sale f count p s o → RoomFor f.number count (Ok Halt)
       → drafted v ≡ drafted w ++ ending p.mark p.marked ∷ [] → v.timers ≡ w.timers

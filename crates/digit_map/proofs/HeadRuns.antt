@@ -1,9 +1,8 @@
 -- The run over a head and its fields, byte by byte. Assumes nothing.
-use Rattle.std.proofs.Common.{◌≡◌, ℕ, ◌+◌, ◌<◌, ◌≤◌, false, ltb, List, [], ◌∷◌, length, drop, Some, None, Ok, Err, sym, refl, ap, ◌∙◌, arith, Option}
+use Rattle.std.proofs.Common.{◌≡◌, ℕ, ◌+◌, ◌≤◌, false, ltb, List, [], length, drop, Some, None, Ok, Err, sym, refl, ap, ◌∙◌, arith}
 use Rattle.std.proofs.lemmas.Bool.{lt-ltb}
 use Rattle.std.proofs.lemmas.Bool.Decides.{nat_tests}
 use Rattle.keypad.specs.declared.timers.Timers.{Timers}
-use Rattle.digit_map.specs.declared.fault.Cause.TheVariants as cause
 use Rattle.digit_map.specs.declared.fault.Fault.{Fault}
 use Rattle.digit_map.specs.declared.token.Token.{Token}
 use Rattle.digit_map.specs.declared.token.Token.TheVariants.{Byte, Gap, End}
@@ -13,30 +12,14 @@ use Rattle.digit_map.specs.declared.sign.Field.TheVariants as field
 use Rattle.digit_map.specs.declared.sign.Sign.{Sign}
 use Rattle.digit_map.specs.declared.sign.Sign.TheVariants as sign
 use Rattle.digit_map.specs.declared.head.Digits.{Digits}
-use Rattle.digit_map.specs.declared.head.Digits.TheVariants.{Letter, Colon, One, Two}
-use Rattle.digit_map.specs.declared.head.FieldTurn.{FieldTurn}
-use Rattle.digit_map.specs.declared.head.FieldTurn.TheVariants.{On, Done}
-use Rattle.digit_map.specs.Faults.{fault}
-use Rattle.digit_map.specs.Bytes.{joint}
+use Rattle.digit_map.specs.declared.head.Digits.TheVariants.{Letter}
 use Rattle.digit_map.specs.Signs.{sign_of}
 use Rattle.digit_map.specs.Tokens.{tokens, rest, behind, Next}
-use Rattle.digit_map.specs.Fields.{rank, timed, field_turn, SoundDigits}
+use Rattle.digit_map.specs.Fields.{rank, timed, SoundDigits}
 use Rattle.digit_map.specs.Limits.{sale}
-use Rattle.digit_map.specs.Turns.{
-  Turn,
-  on,
-  in_head,
-  in_field,
-  state,
-  start,
-  fielded,
-  turn_head,
-  turn,
-  run,
-  went,
-}
-use Rattle.digit_map.specs.Reads.{byte_at, field_sign, next_field, FieldRead, HeadRead}
-use Rattle.digit_map.proofs.Runs.{run_next, by_byte_err, byte_moves, byte_loosens, went_byte}
+use Rattle.digit_map.specs.Turns.{Turn, on, in_head, in_field, state, start, turn_head, turn, run, went}
+use Rattle.digit_map.specs.Reads.{field_sign, next_field, FieldRead, HeadRead}
+use Rattle.digit_map.proofs.Runs.{run_next}
 
 -- what the field from the cursor c on comes to, whatever was read before it
 abbrev Gives : List ℕ → ℕ → Cursor → Field → ℕ → (Timers → Turn) → Type 0
@@ -49,48 +32,6 @@ pub record FieldUpTo (text : List ℕ) (base : ℕ) (c : Cursor) (i : Field) (at
   pub high : b.at ≤ length text
   pub sound : SoundDigits d
   pub is : Gives text base c i at (λ t. run sale (state t [] (in_field i at d)) (rest text base b))
-
--- a field ends with a comma
-done_comma : (i : Field) (d : Digits) (y v : ℕ) → Some (Done v) ≡ field_turn i d y → y ≡ 44
-done_comma i Letter y v e = grind (arith, nat_tests)
-done_comma i Colon y v e = grind (arith, nat_tests)
-done_comma i (One x) y v e = grind (arith, nat_tests)
-done_comma i (Two x) y v e = grind (arith, nat_tests)
-
-module _ {text : List ℕ} {base : ℕ} {c : Cursor} {i : Field} {at : ℕ} {b : Cursor} {d : Digits}
-    {x : Token} {after : Cursor} (u : FieldUpTo text base c i at b d) (next : Next text base b x after) where
-  taken : Gives text base c i at (λ t. run sale (state t [] (in_field i at d)) (x ∷ behind text base x after))
-  taken t = u.is t ∙ run_next sale (state t [] (in_field i at d)) next
-
-  -- a token that is no byte
-  pub field_broken : {e : Fault} → Err e ≡ byte_at 1 (fault cause.Head at 0) x → FieldRead text base c i at (Err e)
-  field_broken {e} g t =
-      taken t ∙ ap (λ (r : Turn). went sale r (behind text base x after)) (by_byte_err 1 _ _ x e g)
-
-  module _ {y : ℕ} (g : Ok y ≡ byte_at 1 (fault cause.Head at 0) x) where
-    turned : (s : Option FieldTurn) → s ≡ field_turn i d y
-        → Gives text base c i at (λ t. went sale (fielded t i at s) (rest text base after))
-    turned s e t =
-        taken t
-        ∙ (went_byte text base after sale 1 _ y _ x g
-        ∙ ap (λ (r : Option FieldTurn). went sale (fielded t i at r) (rest text base after)) (sym e))
-
-    moved : b.at < after.at
-    moved = byte_moves 1 _ y _ _ x g next.moves
-
-    pub field_on : {r : Digits} → Some (On r) ≡ field_turn i d y → SoundDigits r → FieldUpTo text base c i at after r
-    field_on {r} e h =
-        let l = u.low in let v = moved in
-        record { low = omega arith; high = next.high; sound = h; is = turned (Some (On r)) e }
-
-    pub field_done : {v : ℕ} → Some (Done v) ≡ field_turn i d y → v < 100 → FieldRead text base c i at (Ok (v, after))
-    field_done {v} e h =
-        let l = u.low in let m = moved in
-        let j = byte_loosens 1 _ y _ x g next.loosens in
-        (omega arith, next.high, j ∙ ap joint (done_comma i d y v e), h, turned (Some (Done v)) e)
-
-    pub field_bad : None ≡ field_turn i d y → FieldRead text base c i at (Err (fault cause.Head at 0))
-    field_bad e = turned None e
 
 -- no field may begin: the same sign behind the last one
 sign_ends : (t : Timers) (k o : ℕ) (s : Sign) → None ≡ field_sign k o s

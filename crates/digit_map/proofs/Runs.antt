@@ -1,16 +1,11 @@
--- Laws of a run, and of a token that has to be a byte. Assumes nothing.
-use Rattle.std.proofs.Common.{◌≡◌, ℕ, ◌<◌, Bool, List, [], ◌∷◌, ◌++◌, Ok, Err, refl, ap, ◌∙◌, arith}
-use Rattle.keypad.specs.declared.timers.Timers.{Timers}
+-- Laws of a run. Assumes nothing.
+use Rattle.std.proofs.Common.{◌≡◌, ℕ, List, [], ◌∷◌, ◌++◌, refl, ap, ◌∙◌, arith}
 use Rattle.digit_map.specs.declared.fault.Fault.{Fault}
 use Rattle.digit_map.specs.declared.token.Token.{Token}
-use Rattle.digit_map.specs.declared.token.Token.TheVariants.{Byte, Gap, End}
 use Rattle.digit_map.specs.declared.token.Cursor.{Cursor}
-use Rattle.digit_map.specs.declared.node.Node.{Node}
-use Rattle.digit_map.specs.Bytes.{joint}
-use Rattle.digit_map.specs.Tokens.{rest, behind, Moves, Loosens, Next}
+use Rattle.digit_map.specs.Tokens.{rest, behind, Next}
 use Rattle.digit_map.specs.Limits.{Limits}
-use Rattle.digit_map.specs.Turns.{State, Turn, on, done, bad, by_byte, turn, run, went}
-use Rattle.digit_map.specs.Reads.{byte_at}
+use Rattle.digit_map.specs.Turns.{State, Turn, on, done, bad, turn, run, went}
 
 pub run_on : (L : Limits) (s q : State) (x : Token) (xs : List Token)
     → turn L s x ≡ on q → run L s (x ∷ xs) ≡ run L q xs
@@ -20,52 +15,10 @@ pub run_bad : (L : Limits) (s : State) (f : Fault) (x : Token) (xs : List Token)
     → turn L s x ≡ bad f → run L s (x ∷ xs) ≡ bad f
 run_bad L s f x xs e = ap (λ (r : Turn). went L r xs) e
 
-pub run_done : (L : Limits) (s : State) (t : Timers) (ns : List Node) (x : Token) (xs : List Token)
-    → turn L s x ≡ done t ns → run L s (x ∷ xs) ≡ done t ns
-run_done L s t ns x xs e = ap (λ (r : Turn). went L r xs) e
-
 -- a run from a cursor on takes the next token
 pub run_next : {text : List ℕ} {base : ℕ} {c after : Cursor} {x : Token} (L : Limits) (s : State)
     → Next text base c x after → run L s (rest text base c) ≡ went L (turn L s x) (behind text base x after)
 run_next L s n = ap (run L s) n.is
-
--- a token that is no byte
-pub by_byte_err : (n : ℕ) (u : Fault) (g : ℕ → Turn) (x : Token) (e : Fault)
-    → Err e ≡ byte_at n u x → by_byte n u g x ≡ bad e
-by_byte_err n u g (Byte b c o) e h = cc
-by_byte_err n u g (Gap o) e h = cc
-by_byte_err n u g (End o) e h = cc
-
--- a token that is one
-module _ (n : ℕ) (u : Fault) (d : ℕ) where
-  pub by_byte_ok : (g : ℕ → Turn) (x : Token) → Ok d ≡ byte_at n u x → by_byte n u g x ≡ g d
-  by_byte_ok g (Byte b c o) h = let e : b ≡ d = cc in ap g e
-  by_byte_ok g (Gap o) h = cc
-  by_byte_ok g (End o) h = cc
-
-  pub byte_behind : (text : List ℕ) (base : ℕ) (c : Cursor) (x : Token)
-      → Ok d ≡ byte_at n u x → behind text base x c ≡ rest text base c
-  byte_behind text base c (Byte b f o) h = refl
-  byte_behind text base c (Gap o) h = cc
-  byte_behind text base c (End o) h = cc
-
-  pub byte_moves : (from to : ℕ) (x : Token) → Ok d ≡ byte_at n u x → Moves x from to → from < to
-  byte_moves from to (Byte b f o) h m = m
-  byte_moves from to (Gap o) h m = let z : ◌≡◌ {A = ℕ} 0 1 = cc in omega arith
-  byte_moves from to (End o) h m = let z : ◌≡◌ {A = ℕ} 0 1 = cc in omega arith
-
-  pub byte_loosens : (j : Bool) (x : Token) → Ok d ≡ byte_at n u x → Loosens x j → j ≡ joint d
-  byte_loosens j (Byte b f o) h m = let e : b ≡ d = cc in m ∙ ap joint e
-  byte_loosens j (Gap o) h m = cc
-  byte_loosens j (End o) h m = cc
-
--- a byte is what a run inside a set or a field goes on by
-pub went_byte : (text : List ℕ) (base : ℕ) (after : Cursor) (L : Limits) (n : ℕ) (u : Fault) (d : ℕ)
-    (g : ℕ → Turn) (x : Token) → Ok d ≡ byte_at n u x
-    → went L (by_byte n u g x) (behind text base x after) ≡ went L (g d) (rest text base after)
-went_byte text base after L n u d g x h =
-    ap (λ (r : Turn). went L r (behind text base x after)) (by_byte_ok n u d g x h)
-    ∙ ap (went L (g d)) (byte_behind n u d text base after x h)
 
 module _ (L : Limits) where
   went_join : (p r : List Token) (q : State) →

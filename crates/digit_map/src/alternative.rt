@@ -2,9 +2,9 @@ ghost use Rattle.std.specs.Prelude.{◌≡◌, ◌+◌, ◌^◌, ◌<◌, ◌≤
 ghost use Rattle.digit_map.specs.Nodes.{count_positions, count_ends};
 ghost use Rattle.digit_map.specs.Drafts.{drafted};
 ghost use Rattle.digit_map.specs.Limits.{sale};
-ghost use Rattle.digit_map.specs.Acts.{acts, fresh, onward, at_dot, at_halt};
+ghost use Rattle.digit_map.specs.Acts.{acts};
 ghost use Rattle.digit_map.specs.Rooms.{Room, RoomFor};
-ghost use Rattle.digit_map.specs.Reads.{sign_at, AlternativeRead, ClosedRead, AlternativesRead};
+ghost use Rattle.digit_map.specs.Reads.{AlternativeRead, ClosedRead, AlternativesRead};
 ghost use Rattle.digit_map.specs.Readers.{SamePart, placed};
 
 use crate::draft::Draft;
@@ -12,84 +12,7 @@ use crate::fault::{Cause, Fault};
 use crate::node::Position;
 use crate::progress::{Act, Frame, Last, Progress};
 use crate::reader::Reader;
-use crate::sign::{Sign, read_byte};
-use crate::token::Token;
-use keypad::key::Mark;
-
-// The sign of a token outside sets and fields, and its offset.
-fn token_sign(token: Token, alternative: u8) -> Result<(Sign, usize), Fault>
-    ensures { result ≡ sign_at alternative token }
-{
-    match token {
-        Token::Byte(byte, colon, at) => Ok((read_byte(byte, colon), at)),
-        Token::Gap(at) => Err(Cause::Byte.at(at, alternative)),
-        Token::End(at) => Ok((Sign::End, at)),
-    }
-}
-
-// Before the first byte of an alternative.
-fn nothing_read() -> Progress
-    ensures { result ≡ fresh }
-{
-    Progress {
-        mark: Mark::Unmarked,
-        marked: false,
-        needs: false,
-        first: 0,
-        last: Last::Nothing,
-    }
-}
-
-// How far an alternative is read behind one more byte, which has the offset `at` and leaves `last`.
-fn go_on(progress: Progress, at: usize, mark: Mark, marked: bool, last: Last) -> Progress
-    ensures { result ≡ onward progress at mark marked last }
-{
-    let first = match progress.last {
-        Last::Nothing => at,
-        _ => progress.first,
-    };
-    let needs = match progress.last {
-        Last::Position => true,
-        _ => progress.needs,
-    };
-    Progress {
-        mark,
-        marked,
-        needs,
-        first,
-        last,
-    }
-}
-
-// Where alternative `number` may end, if `here`; with `judged`, one that needs no key is at fault as such.
-fn halt(number: u8, progress: Progress, at: usize, here: bool, judged: bool) -> Result<Act, Fault>
-    ensures { result ≡ at_halt number progress at here judged progress.last }
-{
-    match progress.last {
-        Last::Nothing => Err(Cause::Byte.at(at, number)),
-        Last::Hold(z) => Err(Cause::Affix.at(z, number)),
-        Last::Mark | Last::Dot if judged && !progress.needs => {
-            Err(Cause::Keyless.at(progress.first, number))
-        }
-        _ if here => Ok(Act::Halt),
-        _ => Err(Cause::Byte.at(at, number)),
-    }
-}
-
-// A dot belongs right behind a position.
-fn dot(number: u8, progress: Progress, at: usize) -> Result<Act, Fault>
-    ensures { result ≡ at_dot number progress at progress.last }
-{
-    match progress.last {
-        Last::Position => Ok(Act::AddDot(Progress {
-            marked: false,
-            last: Last::Dot,
-            ..progress
-        })),
-        Last::Hold(z) => Err(Cause::Affix.at(z, number)),
-        _ => Err(Cause::Affix.at(at, number)),
-    }
-}
+use crate::sign::Sign;
 
 // What a sign does, where `positions` positions stand before it.
 fn act(
@@ -106,7 +29,7 @@ fn act(
     let number = frame.number;
     let in_number = number <= 64;
     let has_room = in_number && positions < 255;
-    let placed = go_on(progress, at, progress.mark, false, Last::Position);
+    let placed = progress.go_on(at, progress.mark, false, Last::Position);
     match (progress.last, sign) {
         (Last::Hold(_), Sign::Keys(keys)) => Ok(Act::Put(
             Position {
@@ -128,22 +51,21 @@ fn act(
             placed,
         )),
         (_, Sign::SetOpen) if has_room => Ok(Act::OpenSet(false)),
-        (_, Sign::Hold) if has_room => Ok(Act::Go(go_on(
-            progress,
+        (_, Sign::Hold) if has_room => Ok(Act::Go(progress.go_on(
             at,
             progress.mark,
             progress.marked,
             Last::Hold(at),
         ))),
         (_, Sign::Timer(mark)) if in_number => {
-            Ok(Act::Go(go_on(progress, at, mark, true, Last::Mark)))
+            Ok(Act::Go(progress.go_on(at, mark, true, Last::Mark)))
         }
         (_, Sign::Keys(_) | Sign::SetOpen | Sign::Hold | Sign::Timer(_)) => {
             Err(Cause::Excess.at(at, number))
         }
-        (_, Sign::Dot) => dot(number, progress, at),
-        (_, Sign::Bar | Sign::Close) => halt(number, progress, at, frame.bracketed, true),
-        (_, Sign::End) => halt(number, progress, at, !frame.bracketed, !frame.bracketed),
+        (_, Sign::Dot) => progress.dot(number, at),
+        (_, Sign::Bar | Sign::Close) => progress.halt(number, at, frame.bracketed, true),
+        (_, Sign::End) => progress.halt(number, at, !frame.bracketed, !frame.bracketed),
         (_, Sign::Open | Sign::Other) => Err(Cause::Byte.at(at, number)),
     }
 }
@@ -158,9 +80,9 @@ impl Reader<'_> {
             (placed result self.new.cursor) }
         ensures room { count_positions (drafted draft.new) ≤ 255 }
     {
-        let mut progress = nothing_read();
+        let mut progress = Progress::fresh();
         'signs: loop {
-            let (sign, at) = token_sign(self.next(), frame.number)?;
+            let (sign, at) = self.next().sign(frame.number)?;
             let turn = act(frame, draft.positions(), progress, sign, at)?;
             match turn {
                 Act::Go(next) => progress = next,
@@ -183,7 +105,7 @@ impl Reader<'_> {
                         progress.mark,
                         progress.marked,
                     );
-                    progress = go_on(progress, at, progress.mark, false, Last::Position);
+                    progress = progress.go_on(at, progress.mark, false, Last::Position);
                 }
                 Act::Halt => {
                     draft.end(progress.mark, progress.marked);
@@ -197,7 +119,7 @@ impl Reader<'_> {
     fn close(mut self, alternative: u8) -> Result<(), Fault>
         ensures { ClosedRead self.entry.text.now self.entry.base self.entry.cursor alternative result }
     {
-        let (sign, at) = token_sign(self.next(), alternative)?;
+        let (sign, at) = self.next().sign(alternative)?;
         match sign {
             Sign::End => Ok(()),
             Sign::Field(_) => Err(Cause::Head.at(at, alternative)),
@@ -221,7 +143,7 @@ pub(crate) fn read_alternatives(
 {
     let start = Reader::begin(text, base, loose);
     let mut ahead = start;
-    let (sign, _) = token_sign(ahead.next(), 1)?;
+    let (sign, _) = ahead.next().sign(1)?;
     let (bracketed, mut reader) = match sign {
         Sign::Open => (true, ahead),
         _ => (false, start),

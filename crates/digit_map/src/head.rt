@@ -5,7 +5,6 @@ ghost use Rattle.digit_map.specs.Readers.{SamePart, placed};
 
 use crate::fault::{Cause, Fault};
 use crate::reader::Reader;
-use crate::set::token_byte;
 use crate::sign::{Field, Sign, read_byte};
 use crate::token::Token;
 use keypad::timers::{Timers, standard_timers};
@@ -30,10 +29,7 @@ pub enum FieldTurn {
 fn may_be(field: Field, value: u8) -> bool
     ensures { result ≡ fits field value }
 {
-    match field {
-        Field::Start => true,
-        _ => value > 0,
-    }
+    field == Field::Start || value > 0
 }
 
 // The timers with one set.
@@ -88,7 +84,7 @@ impl Reader<'_> {
         let ill_formed = Cause::Head.at(letter, 1);
         let mut digits = Digits::Letter;
         'bytes: loop {
-            let byte = token_byte(self.next(), 1, ill_formed)?;
+            let byte = self.next().byte(1, ill_formed)?;
             match turn_field(field, digits, byte).ok_or(ill_formed)? {
                 FieldTurn::On(next) => digits = next,
                 FieldTurn::Done(value) => return Ok(value),

@@ -1,3 +1,7 @@
+ghost use Rattle.std.specs.Prelude.{◌≡◌};
+ghost use Rattle.digit_map.specs.Acts.{fresh, onward, at_dot, at_halt};
+
+use crate::fault::{Cause, Fault};
 use crate::node::Position;
 use keypad::key::Mark;
 
@@ -38,4 +42,70 @@ pub enum Act {
     AddDot(Progress),
     OpenSet(bool),
     Halt,
+}
+
+impl Progress {
+    // Before the first byte of an alternative.
+    pub(crate) fn fresh() -> Progress
+        ensures { result ≡ fresh }
+    {
+        Progress {
+            mark: Mark::Unmarked,
+            marked: false,
+            needs: false,
+            first: 0,
+            last: Last::Nothing,
+        }
+    }
+
+    // How far an alternative is read behind one more byte, which has the offset `at` and leaves `last`.
+    pub(crate) fn go_on(self, at: usize, mark: Mark, marked: bool, last: Last) -> Progress
+        ensures { result ≡ onward self at mark marked last }
+    {
+        let first = match self.last {
+            Last::Nothing => at,
+            _ => self.first,
+        };
+        let needs = match self.last {
+            Last::Position => true,
+            _ => self.needs,
+        };
+        Progress {
+            mark,
+            marked,
+            needs,
+            first,
+            last,
+        }
+    }
+
+    // Where alternative `number` may end, if `here`; with `judged`, one that needs no key is at fault as such.
+    pub(crate) fn halt(self, number: u8, at: usize, here: bool, judged: bool) -> Result<Act, Fault>
+        ensures { result ≡ at_halt number self at here judged self.last }
+    {
+        match self.last {
+            Last::Nothing => Err(Cause::Byte.at(at, number)),
+            Last::Hold(z) => Err(Cause::Affix.at(z, number)),
+            Last::Mark | Last::Dot if judged && !self.needs => {
+                Err(Cause::Keyless.at(self.first, number))
+            }
+            _ if here => Ok(Act::Halt),
+            _ => Err(Cause::Byte.at(at, number)),
+        }
+    }
+
+    // A dot belongs right behind a position.
+    pub(crate) fn dot(self, number: u8, at: usize) -> Result<Act, Fault>
+        ensures { result ≡ at_dot number self at self.last }
+    {
+        match self.last {
+            Last::Position => Ok(Act::AddDot(Progress {
+                marked: false,
+                last: Last::Dot,
+                ..self
+            })),
+            Last::Hold(z) => Err(Cause::Affix.at(z, number)),
+            _ => Err(Cause::Affix.at(at, number)),
+        }
+    }
 }

@@ -1,12 +1,11 @@
 ghost use Rattle.std.specs.Prelude.{◌≡◌, ◌+◌, ◌^◌, ◌<◌, ◌≤◌, length};
 ghost use Rattle.digit_map.specs.Sets.{set_turn, span, Sound, SoundTurn};
-ghost use Rattle.digit_map.specs.Reads.{byte_at, SetRead};
+ghost use Rattle.digit_map.specs.Reads.{SetRead};
 ghost use Rattle.digit_map.specs.Readers.{SamePart, placed};
 
 use crate::fault::{Cause, Fault};
 use crate::reader::Reader;
 use crate::sign::key_of_letter;
-use crate::token::Token;
 
 // Where a set's reader stands: before its first member, behind a member, behind a digit that may begin a
 // range, behind its hyphen.
@@ -60,17 +59,6 @@ fn turn_set(place: Place, keys: u16, byte: u8) -> Option<SetTurn>
     }
 }
 
-// The byte of a token inside a set or a field, which the text's end leaves unfinished.
-pub(crate) fn token_byte(token: Token, alternative: u8, unfinished: Fault) -> Result<u8, Fault>
-    ensures { result ≡ byte_at alternative unfinished token }
-{
-    match token {
-        Token::Byte(byte, _, _) => Ok(byte),
-        Token::Gap(at) => Err(Cause::Byte.at(at, alternative)),
-        Token::End(_) => Err(unfinished),
-    }
-}
-
 impl Reader<'_> {
     // The keys of the set whose opening bracket has the offset `opened`, from the byte behind it on.
     pub(crate) fn set(&mut self, opened: usize, alternative: u8) -> Result<u16, Fault>
@@ -82,7 +70,7 @@ impl Reader<'_> {
         let mut keys: u16 = 0;
         let mut place = Place::Start;
         'bytes: loop {
-            let byte = token_byte(self.next(), alternative, unread)?;
+            let byte = self.next().byte(alternative, unread)?;
             match turn_set(place, keys, byte).ok_or(unread)? {
                 SetTurn::On(next, more) => {
                     place = next;
