@@ -66,10 +66,7 @@ impl Progress {
             Last::Nothing => at,
             _ => self.first,
         };
-        let needs = match self.last {
-            Last::Position => true,
-            _ => self.needs,
-        };
+        let needs = self.needs || matches!(self.last, Last::Position);
         Progress {
             mark,
             marked,
