@@ -114,6 +114,12 @@ impl Draft {
         self.alternatives
     }
 
+    pub(crate) fn places(&self) -> &[Node]
+        ensures { result.now ≡ drafted self.now }
+    {
+        &self.nodes[..self.len]
+    }
+
     // The place with the given index, counted from 0.
     pub(crate) fn place(&self, index: usize) -> Option<Node>
         ensures { PlaceAt (drafted self.now) index result }

@@ -44,6 +44,13 @@ impl Map {
         self.draft.alternatives()
     }
 
+    // The places, one alternative behind another, each alternative's end as its last place.
+    pub fn places(&self) -> &[Node]
+        ensures { result.now ≡ places self.now }
+    {
+        self.draft.places()
+    }
+
     // The place with the given index, counted from 0.
     pub fn place(&self, index: usize) -> Option<Node>
         ensures { PlaceAt (places self.now) index result }
