@@ -10,8 +10,8 @@ use Rattle.digit_map.specs.declared.node.Node.{Node}
 use Rattle.digit_map.specs.Nodes.{awaiting, ending}
 use Rattle.digit_map.specs.Meaning.{Takes, Says, closes, takes, repeats, skips}
 use Rattle.map_plan.specs.declared.places.Places.{Places}
-use Rattle.map_plan.specs.declared.question.Question.TheVariants as ask
 use Rattle.map_plan.specs.Members.{holds}
+use Rattle.map_plan.specs.Asking as ask
 use Rattle.map_plan.specs.Asking.{accepts, same_mark, answered, dot_first}
 use Rattle.map_plan.specs.Live.{Closed, Rest, SomeLive}
 use Rattle.map_plan.proofs.Symbols.{accepts_complete, same_mark_refl}
@@ -26,35 +26,35 @@ data First : List Node → Entry → Type 0 where
 
 -- what the first place answers of an entry's first step
 first_takes_lem : {xs : List Node} {x : Entry} → First xs x → (s : Symbol) (m : Mark) (e : Entry) →
-    x ≡ prepend (step s m) e → answered (ask.Takes s) xs ≡ true
+    x ≡ prepend (step s m) e → answered (ask.takes_symbol s) xs ≡ true
 first_takes_lem (at_end m h r) s n e q = absurd (never_ended m h (step s n) e q)
 first_takes_lem (at_step p m h r {s = t} {e = f} k) s n e q =
     subst (λ y. accepts p y ≡ true) (same_symbol t s m n f e q) (accepts_complete p k)
 
 first_awaits : {xs : List Node} {x : Entry} → First xs x → (s : Step) (e : Entry) → x ≡ prepend s e →
-    answered ask.Awaits xs ≡ true
+    answered ask.awaits xs ≡ true
 first_awaits (at_end m h r) s e q = absurd (never_ended m h s e q)
 first_awaits (at_step p m h r k) s e q = refl
 
 first_under : {xs : List Node} {x : Entry} → First xs x → (s : Symbol) (m : Mark) (e : Entry) →
-    x ≡ prepend (step s m) e → answered (ask.Under m) xs ≡ true
+    x ≡ prepend (step s m) e → answered (ask.under m) xs ≡ true
 first_under (at_end m h r) s n e q = absurd (never_ended m h (step s n) e q)
 first_under (at_step p m h r {s = t} {e = f} k) s n e q =
     subst (λ y. same_mark y m ≡ true) (same_step_mark t s m n f e q) (same_mark_refl m)
 
 -- what the first place answers of an entry's end
 first_ends : {xs : List Node} {x : Entry} → First xs x → (m : Mark) (h : Bool) → x ≡ ended m h →
-    answered ask.Ends xs ≡ true
+    answered ask.ends xs ≡ true
 first_ends (at_end m h r) n j q = refl
 first_ends (at_step p m h r {s = t} {e = f} k) n j q = absurd (never_ended n j (step t m) f (sym q))
 
 first_settles_lem : {xs : List Node} {x : Entry} → First xs x → (m : Mark) → x ≡ ended m false →
-    answered ask.Settles xs ≡ true
+    answered ask.settles xs ≡ true
 first_settles_lem (at_end m h r) n q = ap (λ (y : Entry). not y.held) q
 first_settles_lem (at_step p m h r {s = t} {e = f} k) n q = absurd (never_ended n false (step t m) f (sym q))
 
 first_closes : {xs : List Node} {x : Entry} → First xs x → (m : Mark) (h : Bool) → x ≡ ended m h →
-    answered (ask.Under m) xs ≡ true
+    answered (ask.under m) xs ≡ true
 first_closes (at_end m h r) n j q =
     subst (λ y. same_mark y m ≡ true) (ap (λ (y : Entry). y.closing) q) (same_mark_refl m)
 first_closes (at_step p m h r {s = t} {e = f} k) n j q = absurd (never_ended n j (step t m) f (sym q))
@@ -75,18 +75,18 @@ module _ (ns : List Node) (live : Places) (c : Closed ns live) where
   at_live : {e : Entry} → Rest ns live e → (k : ℕ) × (holds live k ≡ true) × First (drop k ns) e
   at_live x = finds x.0 x.2 refl x.1
 
-  pub starts_found : (s : Symbol) → sets.Starts (Rest ns live) s → SomeLive ns live (ask.Takes s)
+  pub starts_found : (s : Symbol) → sets.Starts (Rest ns live) s → SomeLive ns live (ask.takes_symbol s)
   starts_found s x = let f = at_live x.2 in (f.0, f.1, first_takes_lem f.2 s x.0 x.1 refl)
 
-  pub ended_found : sets.Ended (Rest ns live) → SomeLive ns live ask.Ends
+  pub ended_found : sets.Ended (Rest ns live) → SomeLive ns live ask.ends
   ended_found x = let f = at_live x.2 in (f.0, f.1, first_ends f.2 x.0 x.1 refl)
 
-  pub settled_found : sets.Settled (Rest ns live) → SomeLive ns live ask.Settles
+  pub settled_found : sets.Settled (Rest ns live) → SomeLive ns live ask.settles
   settled_found x = let f = at_live x.1 in (f.0, f.1, first_settles_lem f.2 x.0 refl)
 
-  pub goes_found : sets.GoesOn (Rest ns live) → SomeLive ns live ask.Awaits
+  pub goes_found : sets.GoesOn (Rest ns live) → SomeLive ns live ask.awaits
   goes_found x = let f = at_live x.2 in (f.0, f.1, first_awaits f.2 x.0 x.1 refl)
 
-  pub under_found : (m : Mark) → sets.Under (Rest ns live) m → SomeLive ns live (ask.Under m)
+  pub under_found : (m : Mark) → sets.Under (Rest ns live) m → SomeLive ns live (ask.under m)
   under_found m (inl x) = let f = at_live x.2 in (f.0, f.1, first_under f.2 x.0 m x.1 refl)
   under_found m (inr x) = let f = at_live x.1 in (f.0, f.1, first_closes f.2 m x.0 refl)

@@ -10,8 +10,8 @@ use Rattle.digit_map.specs.declared.node.Node.{Node}
 use Rattle.digit_map.specs.Nodes.{awaiting}
 use Rattle.digit_map.specs.Meaning.{Takes, Says, takes, repeats, skips, is_end, whole_alternatives}
 use Rattle.map_plan.specs.declared.places.Places.{Places}
-use Rattle.map_plan.specs.declared.question.Question.TheVariants as ask
 use Rattle.map_plan.specs.Members.{holds}
+use Rattle.map_plan.specs.Asking as ask
 use Rattle.map_plan.specs.Asking.{accepts_at, answered, has_dot, dot_first}
 use Rattle.map_plan.specs.Live.{remaining}
 use Rattle.map_plan.proofs.Symbols.{accepts_sound}
@@ -42,7 +42,7 @@ step_at : (o : Option Position) (m : Mark) (h : Bool) (r : List Node) {e : Entry
 step_at (Some p) m h r s a x = step_position p m h r (accepts_sound p s a) p.dotted refl x
 step_at None m h r s a x = absurd (both_ways false refl a)
 
-step_first : (xs : List Node) {e : Entry} (s : Symbol) → answered (ask.Takes s) xs ≡ true →
+step_first : (xs : List Node) {e : Entry} (s : Symbol) → answered (ask.takes_symbol s) xs ≡ true →
     Says (drop 1 xs) e → (m : Mark) × Says xs (prepend (step s m) e)
 step_first [] s a x = absurd (both_ways false refl a)
 step_first (n ∷ r) s a x = (n.mark, step_at n.awaits n.mark n.marked r s a x)
@@ -54,13 +54,13 @@ stay_at : (o : Option Position) (m : Mark) (h : Bool) (r : List Node) {e : Entry
 stay_at (Some p) m h r s a d x = repeats p m h d (accepts_sound p s a) x
 stay_at None m h r s a d x = absurd (both_ways false refl a)
 
-stay_first : (xs : List Node) {e : Entry} (s : Symbol) → answered (ask.Takes s) xs ≡ true →
+stay_first : (xs : List Node) {e : Entry} (s : Symbol) → answered (ask.takes_symbol s) xs ≡ true →
     dot_first xs ≡ true → Says xs e → (m : Mark) × Says xs (prepend (step s m) e)
 stay_first [] s a d x = absurd (both_ways false refl a)
 stay_first (n ∷ r) s a d x = (n.mark, stay_at n.awaits n.mark n.marked r s a d x)
 
 -- behind an end an alternative begins
-whole_take : (ns : List Node) (k : ℕ) → answered ask.Ends (drop k ns) ≡ true →
+whole_take : (ns : List Node) (k : ℕ) → answered ask.ends (drop k ns) ≡ true →
     whole_alternatives (take (suc k) ns) ≡ true
 whole_take [] zero e = absurd (both_ways false refl e)
 whole_take [] (suc k) e = absurd (both_ways false refl e)
@@ -70,7 +70,7 @@ whole_take (n ∷ []) (suc (suc k)) e = absurd (both_ways false refl e)
 whole_take (n ∷ m ∷ ns) (suc k) e = whole_take (m ∷ ns) k e
 
 pub last_end : (n : Node) (front back : List Node) → whole_alternatives (n ∷ front) ≡ true →
-    answered ask.Ends (drop (length front) ((n ∷ front) ++ back)) ≡ true
+    answered ask.ends (drop (length front) ((n ∷ front) ++ back)) ≡ true
 last_end n [] back e = e
 last_end n (m ∷ front) back e = last_end m front back e
 
@@ -78,17 +78,17 @@ end_no_dot : (o : Option Position) → is_end o ≡ true → has_dot o ≡ true 
 end_no_dot (Some p) e d = both_ways false refl e
 end_no_dot None e d = both_ways false refl d
 
-ends_no_dot : (xs : List Node) → answered ask.Ends xs ≡ true → dot_first xs ≡ true → ⊥
+ends_no_dot : (xs : List Node) → answered ask.ends xs ≡ true → dot_first xs ≡ true → ⊥
 ends_no_dot [] e d = both_ways false refl e
 ends_no_dot (n ∷ r) e d = end_no_dot n.awaits e d
 
 passing_takes : (live : Places) (s : Symbol) (i : ℕ) (xs : List Node) →
-    passing_first live (Some s) i xs ≡ true → (holds live i ≡ true) × (answered (ask.Takes s) xs ≡ true)
+    passing_first live (Some s) i xs ≡ true → (holds live i ≡ true) × (answered (ask.takes_symbol s) xs ≡ true)
 passing_takes live s i [] e = absurd (both_ways false refl e)
-passing_takes live s i (n ∷ r) e = and_parts (holds live i) (answered (ask.Takes s) (n ∷ r)) e
+passing_takes live s i (n ∷ r) e = and_parts (holds live i) (answered (ask.takes_symbol s) (n ∷ r)) e
 
 pub passing_ends : (live : Places) (i : ℕ) (xs : List Node) →
-    passing_first live None i xs ≡ answered ask.Ends xs
+    passing_first live None i xs ≡ answered ask.ends xs
 passing_ends live i [] = refl
 passing_ends live i (n ∷ r) = refl
 

@@ -11,8 +11,8 @@ use Rattle.digit_map.specs.declared.node.Node.{Node}
 use Rattle.digit_map.specs.Nodes.{awaiting}
 use Rattle.digit_map.specs.Meaning.{Takes, Says, closes, takes, repeats, skips, whole_alternatives}
 use Rattle.map_plan.specs.declared.places.Places.{Places}
-use Rattle.map_plan.specs.declared.question.Question.TheVariants as ask
 use Rattle.map_plan.specs.Members.{holds}
+use Rattle.map_plan.specs.Asking as ask
 use Rattle.map_plan.specs.Asking.{accepts_at, answered, dot_first}
 use Rattle.map_plan.specs.Live.{Closed, Rest, remaining}
 use Rattle.map_plan.proofs.Symbols.{accepts_complete}
@@ -37,7 +37,7 @@ module _ (ns : List Node) (live : Places) where
   begins_reached [] back {e = e} q w x = (0, refl, subst (λ xs. Says xs e) (sym q) x)
   begins_reached (n ∷ front) back {e = e} q w x =
       let k = length front in
-      let a = ap (λ xs. answered ask.Ends (drop k xs)) q ∙ last_end n front back w in
+      let a = ap (λ xs. answered ask.ends (drop k xs)) q ∙ last_end n front back w in
       let y = ap (drop (suc k)) q ∙ drop_at (n ∷ front) back (suc k) refl in
       (suc k, passed_reached None k (passing_ends live k (drop k ns) ∙ a), subst (λ xs. Says xs e) (sym y) x)
 

@@ -1,13 +1,17 @@
 -- The places of a map, by their index. Assumes nothing.
-use Rattle.std.proofs.Common.{◌≡◌, ℕ, ◌+◌, ◌<◌, Bool, true, false, List, [], ◌∷◌, length, get_or, drop, Option, sym, refl, ap, ◌∙◌, ⊎_elim, arith}
+use Rattle.std.proofs.Common.{◌≡◌, ℕ, zero, suc, ◌&&◌, subst, zero-add, add-zero, cond, ◌||◌, ◌+◌, ◌<◌, Bool, true, false, List, [], ◌∷◌, length, get_or, drop, Option, sym, refl, ap, ◌∙◌, ⊎_elim, arith}
 use Rattle.std.proofs.lemmas.List.{drop-drop, drop_all, drop_more}
-use Rattle.std.proofs.lemmas.Bool.{both_ways, cases_lt}
+use Rattle.std.proofs.lemmas.Bool.{both_ways, cases_lt, and_parts, and_from, or_cases, or_left, or_right}
 use Rattle.keypad.specs.declared.key.Mark.{Mark}
+use Rattle.keypad.specs.Answers.{Tells}
+use Rattle.std.specs.List.{list_any, enumerate_from, filter}
 use Rattle.keypad.specs.Entries.{Entry}
 use Rattle.digit_map.specs.declared.node.Position.{Position}
 use Rattle.digit_map.specs.declared.node.Node.{Node}
 use Rattle.digit_map.specs.Meaning.{Says, closes, takes, repeats, skips}
-use Rattle.map_plan.specs.declared.question.Question.{Question}
+use Rattle.map_plan.specs.declared.places.Places.{Places}
+use Rattle.map_plan.specs.Members.{holds}
+use Rattle.map_plan.specs.Live.{SomeLive}
 use Rattle.map_plan.specs.Asking.{answered}
 
 -- the place of a node, given by its fields
@@ -29,12 +33,63 @@ pub behind : (ns : List Node) (i : ℕ) (n : Node) (r : List Node) → drop i ns
 behind ns i n r e = sym (drop-drop 1 i ns) ∙ ap (drop 1) e
 
 -- a node that was read
-pub read_at : (ns : List Node) (i : ℕ) (n : Node) → i < length ns → n ≡ get_or ns i n →
-    drop i ns ≡ n ∷ drop (i + 1) ns
-read_at ns i n h e = drop_more ns i n h ∙ ap (λ x. x ∷ drop (i + 1) ns) (sym e)
+pub read_at : (xs ns : List Node) (i : ℕ) (n : Node) → xs ≡ ns → i < length xs →
+    drop i ns ≡ get_or xs i n ∷ drop (i + 1) ns
+read_at xs ns i n e l = subst (λ ys. drop i ys ≡ get_or xs i n ∷ drop (i + 1) ys) e (drop_more xs i n l)
 
 -- a place that answers is one of the map's
-pub answered_inside : (ns : List Node) (q : Question) (i : ℕ) → answered q (drop i ns) ≡ true → i < length ns
+pub answered_inside : (ns : List Node) (q : Node → Bool) (i : ℕ) → answered q (drop i ns) ≡ true → i < length ns
 answered_inside ns q i a =
     ⊎_elim (λ l. l) (λ l. absurd (both_ways false refl (sym (ap (answered q) (drop_all i ns l)) ∙ a)))
     (cases_lt i (length ns))
+
+any_kept : {X : Type 0} (t q : X → Bool) (x : X) (xs : List X) (b : Bool) →
+    list_any q (filter t xs) ≡ list_any (λ y. t y && q y) xs →
+    list_any q (cond b (x ∷ filter t xs) (filter t xs)) ≡ ((b && q x) || list_any (λ y. t y && q y) xs)
+any_kept t q x xs true e = ap (λ r. q x || r) e
+any_kept t q x xs false e = e
+
+any_filter : {X : Type 0} (t q : X → Bool) (xs : List X) →
+    list_any q (filter t xs) ≡ list_any (λ x. t x && q x) xs
+any_filter t q [] = refl
+any_filter t q (x ∷ xs) = any_kept t q x xs (t x) (any_filter t q xs)
+
+module _ (live : Places) (p : Node → Bool) where
+  -- whether some place is live and passes, counted from k on
+  abbrev live_from : ℕ → List Node → Bool
+  live_from k ns = list_any (λ (x : ℕ × Node). holds live x.0 && p x.1) (enumerate_from k ns)
+
+  found_from : (k : ℕ) (ns : List Node) → live_from k ns ≡ true →
+      (i : ℕ) × (holds live (k + i) ≡ true) × (answered p (drop i ns) ≡ true)
+  found_from k [] e = absurd (both_ways false refl e)
+  found_from k (n ∷ ns) e =
+      ⊎_elim (λ h. let a = and_parts (holds live k) (p n) h in (0, rw add-zero a.0, a.1))
+      (λ h. let x = found_from (k + 1) ns h in
+      let y : k + 1 + x.0 ≡ k + suc x.0 = omega arith in
+      (suc x.0, subst (λ j. holds live j ≡ true) y x.1, x.2))
+      (or_cases (holds live k && p n) (live_from (k + 1) ns) e)
+
+  finds_from : (k i : ℕ) (ns : List Node) → holds live (k + i) ≡ true → answered p (drop i ns) ≡ true →
+      live_from k ns ≡ true
+  finds_from k i [] v a = absurd (omega (arith, answered_inside [] p i a))
+  finds_from k zero (n ∷ ns) v a =
+      or_left (holds live k && p n) (live_from (k + 1) ns)
+      (and_from (holds live k) (p n) (rw add-zero at v) a)
+  finds_from k (suc i) (n ∷ ns) v a =
+      let y : k + suc i ≡ k + 1 + i = omega arith in
+      or_right (holds live k && p n) (live_from (k + 1) ns)
+      (finds_from (k + 1) i ns (subst (λ j. holds live j ≡ true) y v) a)
+
+  tells_from : (ns : List Node) (r : Bool) → r ≡ live_from 0 ns → Tells (SomeLive ns live p) r
+  tells_from ns true e =
+      let x = found_from 0 ns (sym e) in ∣ (x.0, subst (λ i. holds live i ≡ true) (zero-add x.0) x.1, x.2) ∣₁
+  tells_from ns false e =
+      λ x. both_ways false refl
+      (e ∙ finds_from 0 x.0 ns (subst (λ i. holds live i ≡ true) (sym (zero-add x.0)) x.1) x.2)
+
+  -- the live places are asked one behind another
+  pub some_live : (ns : List Node) (r : Bool) →
+      r ≡ list_any (λ (x : ℕ × Node). p x.1) (filter (λ (x : ℕ × Node). holds live x.0) (enumerate_from 0 ns)) →
+      Tells (SomeLive ns live p) r
+  some_live ns r e =
+      tells_from ns r (e ∙ any_filter (λ x. holds live x.0) (λ x. p x.1) (enumerate_from 0 ns))

@@ -1,5 +1,5 @@
 -- What a place answers. Assumes nothing.
-use Rattle.std.specs.Prelude.{ℕ, Bool, true, false, not, ◌&&◌, List, [], ◌∷◌, Some, None, Option, nat_lt}
+use Rattle.std.specs.Prelude.{◌≡◌, ℕ, Bool, true, false, not, ◌&&◌, List, [], ◌∷◌, Some, None, Option, nat_lt}
 use Rattle.keypad.specs.declared.key.Symbol.{Symbol}
 use Rattle.keypad.specs.declared.key.Symbol.TheVariants as symbol
 use Rattle.keypad.specs.declared.key.Mark.{Mark}
@@ -8,8 +8,6 @@ use Rattle.digit_map.specs.declared.node.Position.{Position}
 use Rattle.digit_map.specs.declared.node.Node.{Node}
 use Rattle.digit_map.specs.Masks.{has}
 use Rattle.digit_map.specs.Meaning.{is_end}
-use Rattle.map_plan.specs.declared.question.Question.{Question}
-use Rattle.map_plan.specs.declared.question.Question.TheVariants.{Takes, Ends, Settles, Awaits, Under}
 
 -- k is a key, and among the keys m
 abbrev pub in_keys : ℕ → ℕ → Bool
@@ -35,17 +33,31 @@ same_mark Long Unmarked = false
 same_mark Long Short = false
 same_mark Long Long = true
 
-abbrev pub answer : Question → Node → Bool
-answer (Takes s) n = accepts_at s n.awaits
-answer Ends n = is_end n.awaits
-answer Settles n = is_end n.awaits && not n.marked
-answer Awaits n = not (is_end n.awaits)
-answer (Under m) n = same_mark m n.mark
+-- what is asked of a place: whether it takes a symbol, is an alternative's end, is an end that is not held,
+-- awaits a position, or awaits its position or its end under a mark
+abbrev pub takes_symbol : Symbol → Node → Bool
+takes_symbol s n = accepts_at s n.awaits
 
--- the first of the places answers
-abbrev pub answered : Question → List Node → Bool
-answered q [] = false
-answered q (n ∷ ns) = answer q n
+abbrev pub ends : Node → Bool
+ends n = is_end n.awaits
+
+abbrev pub settles : Node → Bool
+settles n = is_end n.awaits && not n.marked
+
+abbrev pub awaits : Node → Bool
+awaits n = not (is_end n.awaits)
+
+abbrev pub under : Mark → Node → Bool
+under m n = same_mark m n.mark
+
+-- the answers are those of the test
+abbrev pub Asks : (Node → Bool → Type 0) → (Node → Bool) → Type 0
+Asks says p = (n : Node) (r : Bool) → says n r → r ≡ p n
+
+-- the first of the places answers with yes
+abbrev pub answered : (Node → Bool) → List Node → Bool
+answered p [] = false
+answered p (n ∷ ns) = p n
 
 -- what is awaited has a dot
 abbrev pub has_dot : Option Position → Bool

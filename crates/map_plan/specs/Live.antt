@@ -6,10 +6,8 @@ use Rattle.keypad.specs.Sets.{After}
 use Rattle.digit_map.specs.declared.node.Node.{Node}
 use Rattle.digit_map.specs.Meaning.{Says, MapEntry}
 use Rattle.map_plan.specs.declared.places.Places.{Places}
-use Rattle.map_plan.specs.declared.question.Question.{Question}
-use Rattle.map_plan.specs.declared.question.Question.TheVariants.{Takes, Ends}
 use Rattle.map_plan.specs.Members.{holds}
-use Rattle.map_plan.specs.Asking.{answer, answered, dot_first}
+use Rattle.map_plan.specs.Asking.{takes_symbol, ends, answered, dot_first}
 
 -- behind a live place that has a dot, the next one is live too
 abbrev pub Closed : List Node → Places → Type 0
@@ -21,13 +19,13 @@ abbrev pub Rest : List Node → Places → Entries
 Rest ns live e = (i : ℕ) × (holds live i ≡ true) × Says (drop i ns) e
 
 -- a live place answers with yes
-abbrev pub SomeLive : List Node → Places → Question → Type 0
-SomeLive ns live q = (i : ℕ) × (holds live i ≡ true) × (answered q (drop i ns) ≡ true)
+abbrev pub SomeLive : List Node → Places → (Node → Bool) → Type 0
+SomeLive ns live p = (i : ℕ) × (holds live i ≡ true) × (answered p (drop i ns) ≡ true)
 
 -- the place i with the node n is passed: a live one by a symbol that it takes, an end before any symbol
 abbrev pub passing : Places → Option Symbol → ℕ → Node → Bool
-passing live (Some s) i n = holds live i && answer (Takes s) n
-passing live None i n = answer Ends n
+passing live (Some s) i n = holds live i && takes_symbol s n
+passing live None i n = ends n
 
 -- what remains of the live places' entries after a symbol; before any, the map's entries
 abbrev pub remaining : List Node → Places → Option Symbol → Entries

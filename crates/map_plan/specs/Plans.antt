@@ -1,5 +1,5 @@
 -- The entries of a map's plan. Assumes nothing.
-use Rattle.std.specs.Prelude.{Option}
+use Rattle.std.specs.Prelude.{Bool, Option}
 use Rattle.keypad.specs.declared.key.Symbol.{Symbol}
 use Rattle.keypad.specs.Entries.{Entries}
 use Rattle.keypad.specs.Sets.{Same}
@@ -7,7 +7,7 @@ use Rattle.digit_map.specs.Maps.{places}
 use Rattle.digit_map.specs.Meaning.{MapEntry}
 use Rattle.map_plan.specs.declared.places.Places.{Places}
 use Rattle.map_plan.specs.declared.plan.MapPlan.{MapPlan}
-use Rattle.map_plan.specs.declared.question.Question.{Question}
+use Rattle.digit_map.specs.declared.node.Node.{Node}
 use Rattle.map_plan.specs.Live.{Rest, SomeLive, remaining}
 
 -- the map's entries
@@ -19,8 +19,8 @@ abbrev pub rest_of : MapPlan → Entries
 rest_of p = Rest (places p.map) p.live
 
 -- a live place answers with yes
-abbrev pub SomeAnswers : MapPlan → Question → Type 0
-SomeAnswers p q = SomeLive (places p.map) p.live q
+abbrev pub SomeAnswers : MapPlan → (Node → Bool) → Type 0
+SomeAnswers p asks = SomeLive (places p.map) p.live asks
 
 -- the live places leave what remains after a symbol; before any, the map's entries
 abbrev pub Leaves : MapPlan → Option Symbol → Places → Type 0

@@ -1,9 +1,9 @@
 ghost use Rattle.std.specs.Prelude.{◌≡◌};
-ghost use Rattle.map_plan.specs.Asking.{in_keys, accepts, same_mark, answer, has_dot};
+ghost use Rattle.digit_map.specs.Meaning.{is_end};
+ghost use Rattle.map_plan.specs.Asking.{in_keys, accepts, takes_symbol, has_dot};
 
-use crate::question::Question;
 use digit_map::node::{Node, Position};
-use keypad::key::{Mark, Symbol};
+use keypad::key::Symbol;
 
 fn has_key(keys: u16, key: u8) -> bool
     ensures { result ≡ in_keys keys key }
@@ -21,35 +21,22 @@ fn accepts_symbol(position: Position, symbol: Symbol) -> bool
     }
 }
 
-fn same(a: Mark, b: Mark) -> bool
-    ensures { result ≡ same_mark a b }
+// Whether a position is awaited that takes the symbol.
+pub(crate) fn takes(node: Node, symbol: Symbol) -> bool
+    ensures { result ≡ takes_symbol symbol node }
 {
-    match (a, b) {
-        (Mark::Unmarked, Mark::Unmarked) => true,
-        (Mark::Short, Mark::Short) => true,
-        (Mark::Long, Mark::Long) => true,
-        _ => false,
-    }
+    node.awaits
+        .is_some_and(|position| accepts_symbol(position, symbol))
 }
 
-pub(crate) fn answer_at(node: Node, question: Question) -> bool
-    ensures { result ≡ answer question node }
+pub(crate) fn ends(node: Node) -> bool
+    ensures { result ≡ is_end node.awaits }
 {
-    match (question, node.awaits) {
-        (Question::Takes(symbol), Some(position)) => accepts_symbol(position, symbol),
-        (Question::Ends, None) => true,
-        (Question::Settles, None) => !node.marked,
-        (Question::Awaits, Some(_)) => true,
-        (Question::Under(mark), _) => same(mark, node.mark),
-        _ => false,
-    }
+    node.awaits.is_none()
 }
 
 pub(crate) fn dotted(node: Node) -> bool
     ensures { result ≡ has_dot node.awaits }
 {
-    match node.awaits {
-        Some(position) => position.dotted,
-        None => false,
-    }
+    node.awaits.is_some_and(|position| position.dotted)
 }

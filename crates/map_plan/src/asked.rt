@@ -5,10 +5,10 @@ ghost use Rattle.map_plan.specs.Plans.{whole_of, rest_of};
 ghost use Rattle.digit_map.proofs.Maps.{is_proper};
 ghost use Rattle.digit_map.proofs.Meanings.{meant};
 
+use crate::answer::{ends, takes};
 use crate::live::{any_live, live_after};
 use crate::places::Places;
 use crate::plan::MapPlan;
-use crate::question::Question;
 use digit_map::map::Map;
 use keypad::key::{Mark, Symbol};
 use keypad::plan::Plan;
@@ -41,7 +41,7 @@ impl Plan for MapPlan {
     }
 
     fn open(&self, symbol: Symbol) -> bool {
-        any_live(self, Question::Takes(symbol))
+        any_live(self, |node| takes(node, symbol))
     }
 
     fn press(&mut self, symbol: Symbol) -> bool {
@@ -53,21 +53,21 @@ impl Plan for MapPlan {
     }
 
     fn satisfied(&self) -> bool {
-        any_live(self, Question::Ends)
+        any_live(self, ends)
     }
 
     fn settled(&self) -> bool {
-        any_live(self, Question::Settles)
+        any_live(self, |node| ends(node) && !node.marked)
     }
 
     fn goes_on(&self) -> bool {
-        any_live(self, Question::Awaits)
+        any_live(self, |node| node.awaits.is_some())
     }
 
     fn timing(&self) -> Mark {
-        if any_live(self, Question::Under(Mark::Long)) {
+        if any_live(self, |node| node.mark == Mark::Long) {
             Mark::Long
-        } else if any_live(self, Question::Under(Mark::Short)) {
+        } else if any_live(self, |node| node.mark == Mark::Short) {
             Mark::Short
         } else {
             Mark::Unmarked

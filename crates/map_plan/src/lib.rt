@@ -6,7 +6,6 @@ pub mod asked;
 mod live;
 pub mod places;
 pub mod plan;
-pub mod question;
 
 #[cfg(test)]
 mod tests {

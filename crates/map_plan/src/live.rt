@@ -1,39 +1,38 @@
-ghost use Rattle.std.specs.Prelude.{◌≡◌, ◌<◌};
+ghost use Rattle.std.specs.Prelude.{◌≡◌, ◌<◌, Bool};
 ghost use Rattle.keypad.specs.Answers.{Tells};
+ghost use Rattle.digit_map.specs.declared.node.Node.{Node};
 ghost use Rattle.digit_map.specs.Maps.{places};
+ghost use Rattle.map_plan.specs.Asking.{Asks};
 ghost use Rattle.map_plan.specs.Live.{Closed, passing};
 ghost use Rattle.map_plan.specs.Plans.{SomeAnswers, Leaves};
 
-use crate::answer::{answer_at, dotted};
+use crate::answer::{dotted, ends, takes};
 use crate::places::Places;
 use crate::plan::MapPlan;
-use crate::question::Question;
 use digit_map::node::Node;
 use keypad::key::Symbol;
 
-// Whether a live place answers the question with yes.
-pub(crate) fn any_live(plan: &MapPlan, question: Question) -> bool
-    ensures { Tells (SomeAnswers plan.now question) result }
+// Whether a live place is one to which `asks` says yes.
+pub(crate) fn any_live<F: Fn(Node) -> bool>(plan: &MapPlan, asks: F) -> bool
+    requires { F.IsAlwaysCallable asks }
+    ensures { (p : Node → Bool) → Asks (F.post asks) p → Tells (SomeAnswers plan.now p) result }
 {
-    let mut place = 0;
-    while let Some(node) = plan.map.place(place) {
-        if plan.live.has(place) && answer_at(node, question) {
-            return true;
-        }
-        place += 1;
-    }
-    false
+    plan.map
+        .places()
+        .iter()
+        .enumerate()
+        .filter(|(place, _)| plan.live.has(*place))
+        .any(|(_, node)| asks(*node))
 }
 
 // Whether the place is passed: a live one by a symbol that it takes, or an alternative's end before any
-// symbol.
+// symbol. A test handed in would be no plainer: a flag that says whether the map begins would go with it.
 fn passes(plan: &MapPlan, place: usize, node: Node, symbol: Option<Symbol>) -> bool
-    requires { place < 320 }
     ensures { result ≡ passing plan.now.live symbol place node }
 {
     match symbol {
-        Some(symbol) => plan.live.has(place) && answer_at(node, Question::Takes(symbol)),
-        None => answer_at(node, Question::Ends),
+        Some(symbol) => plan.live.has(place) && takes(node, symbol),
+        None => ends(node),
     }
 }
 
@@ -45,13 +44,11 @@ pub(crate) fn live_after(plan: &MapPlan, symbol: Option<Symbol>) -> Places
 {
     let mut live = Places::none();
     let mut reached = symbol.is_none();
-    let mut place = 0;
-    while let Some(node) = plan.map.place(place) {
-        let passed = passes(plan, place, node, symbol);
-        let repeats = dotted(node);
+    for (place, node) in plan.map.places().iter().enumerate() {
+        let passed = passes(plan, place, *node, symbol);
+        let repeats = dotted(*node);
         live.add_if(place, reached | passed & repeats);
         reached = reached & repeats | passed;
-        place += 1;
     }
     live
 }

@@ -15,10 +15,11 @@ impl Places {
     }
 
     pub(crate) fn has(&self, place: usize) -> bool
-        requires { place < 320 }
         ensures { result ≡ holds self.now place }
     {
-        self.words[place / 64] >> (place % 64) & 1 == 1
+        self.words
+            .get(place / 64)
+            .is_some_and(|word| word >> (place % 64) & 1 == 1)
     }
 
     fn add(&mut self, place: usize)
