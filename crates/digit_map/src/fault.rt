@@ -8,7 +8,7 @@ ghost use Rattle.digit_map.specs.Faults.{cause_number};
 // many.
 #[derive(Clone, Copy, PartialEq, Eq, Debug)]
 pub enum Cause {
-    Length,
+    Length = 1,
     Head,
     Byte,
     Set,
@@ -21,15 +21,15 @@ impl Cause {
     pub fn number(self) -> u8
         ensures { result ≡ cause_number self }
     {
-        match self {
-            Cause::Length => 1,
-            Cause::Head => 2,
-            Cause::Byte => 3,
-            Cause::Set => 4,
-            Cause::Affix => 5,
-            Cause::Keyless => 6,
-            Cause::Excess => 7,
-        }
+        self as u8
+    }
+}
+
+impl From<Cause> for u8 {
+    ghost from_gives = { λ cause number. number ≡ cause_number cause };
+
+    fn from(cause: Cause) -> u8 {
+        cause.number()
     }
 }
 
