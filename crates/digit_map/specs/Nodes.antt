@@ -1,5 +1,5 @@
 -- The places of alternatives. Assumes nothing.
-use Rattle.std.specs.Prelude.{◌≡◌, ℕ, ◌+◌, ◌<◌, ◌≤◌, Bool, true, false, not, ◌||◌, List, [], ◌∷◌, length, Some, None, Option, slice_index_or}
+use Rattle.std.specs.Prelude.{◌≡◌, ℕ, ◌+◌, Bool, true, false, not, ◌||◌, List, [], ◌∷◌, Some, None, Option}
 use Rattle.keypad.specs.declared.key.Mark.{Mark}
 use Rattle.digit_map.specs.declared.node.Position.{Position}
 use Rattle.digit_map.specs.declared.node.Node.{Node}
@@ -53,8 +53,3 @@ needed None = false
 abbrev pub needs_key : List Node → Bool
 needs_key [] = false
 needs_key (n ∷ ns) = needed n.awaits || needs_key ns
-
--- what stands at an index: a place, or nothing behind the last
-abbrev pub PlaceAt : List Node → ℕ → Option Node → Type 0
-PlaceAt ns i None = length ns ≤ i
-PlaceAt ns i (Some n) = (i < length ns) × (n ≡ slice_index_or ns i n)

@@ -1,7 +1,9 @@
-ghost use Rattle.std.specs.Prelude.{◌≡◌, ◌≤◌, length, take};
+ghost use Rattle.std.specs.Prelude.{◌≡◌};
+ghost use Rattle.keypad.specs.Rows.{listed};
 ghost use Rattle.digit_map.specs.Nodes.{count_positions, count_ends};
 
 use crate::node::Node;
+use keypad::row::Row;
 use keypad::timers::Timers;
 
 pub mod places;
@@ -11,12 +13,9 @@ pub mod places;
 #[derive(Clone, Copy)]
 pub struct Draft {
     timers: Timers,
-    nodes: [Node; 320],
-    len: usize,
+    nodes: Row<Node, 320>,
     positions: usize,
     alternatives: usize,
-    ghost full: { length nodes ≡ 320 },
-    ghost few: { len ≤ 320 },
-    ghost counted: { positions ≡ count_positions (take len nodes) },
-    ghost ended: { alternatives ≡ count_ends (take len nodes) },
+    ghost counted: { positions ≡ count_positions (listed nodes) },
+    ghost ended: { alternatives ≡ count_ends (listed nodes) },
 }

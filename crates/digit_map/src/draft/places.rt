@@ -1,25 +1,12 @@
-ghost use Rattle.std.specs.Prelude.{◌≡◌, ◌<◌, Bool, true, false, [], ◌∷◌, ◌++◌, length};
-ghost use Rattle.digit_map.specs.Nodes.{PlaceAt};
-ghost use Rattle.digit_map.specs.Nodes.{count_positions, count_ends, awaiting, ending, with_dot_lem, dot_last_lem};
+ghost use Rattle.std.specs.Prelude.{◌≡◌, ◌<◌, [], ◌∷◌, ◌++◌, length, slice_get};
+ghost use Rattle.digit_map.specs.Nodes.{count_positions, count_ends, awaiting, ending, dot_last_lem};
 ghost use Rattle.digit_map.specs.Drafts.{drafted};
 
 use crate::draft::Draft;
 use crate::node::{Node, Position};
 use keypad::key::Mark;
+use keypad::row::Row;
 use keypad::timers::Timers;
-
-// A dot behind what is awaited, if it is a position.
-fn with_dot(awaited: Option<Position>) -> Option<Position>
-    ensures { result ≡ with_dot_lem awaited }
-{
-    match awaited {
-        Some(position) => Some(Position {
-            dotted: true,
-            ..position
-        }),
-        None => None,
-    }
-}
 
 impl Draft {
     // A draft with no alternative yet.
@@ -34,8 +21,7 @@ impl Draft {
         };
         Draft {
             timers,
-            nodes: [end; 320],
-            len: 0,
+            nodes: Row::of(end),
             positions: 0,
             alternatives: 0,
         }
@@ -48,12 +34,11 @@ impl Draft {
         ensures places { drafted self.new ≡ drafted self.old ++ awaiting position mark marked ∷ [] }
         ensures timers { self.new.timers ≡ self.old.timers }
     {
-        self.nodes[self.len] = Node {
+        self.nodes.push(Node {
             awaits: Some(position),
             mark,
             marked,
-        };
-        self.len += 1;
+        });
         self.positions += 1;
     }
 
@@ -64,12 +49,11 @@ impl Draft {
         ensures places { drafted self.new ≡ drafted self.old ++ ending mark marked ∷ [] }
         ensures timers { self.new.timers ≡ self.old.timers }
     {
-        self.nodes[self.len] = Node {
+        self.nodes.push(Node {
             awaits: None,
             mark,
             marked,
-        };
-        self.len += 1;
+        });
         self.alternatives += 1;
     }
 
@@ -78,14 +62,13 @@ impl Draft {
         ensures places { drafted self.new ≡ dot_last_lem (drafted self.old) }
         ensures timers { self.new.timers ≡ self.old.timers }
     {
-        if self.len > 0 {
-            let last = self.len - 1;
-            let node = self.nodes[last];
-            self.nodes[last] = Node {
-                awaits: with_dot(node.awaits),
-                mark: node.mark,
-                marked: node.marked,
-            };
+        let last = self.len().saturating_sub(1);
+        if let Some(node) = self.nodes.get(last) {
+            let awaits = node.awaits.map(|position| Position {
+                dotted: true,
+                ..position
+            });
+            self.nodes.set(last, Node { awaits, ..node });
         }
     }
 
@@ -99,7 +82,7 @@ impl Draft {
     pub(crate) fn len(&self) -> usize
         ensures { result ≡ length (drafted self.now) }
     {
-        self.len
+        self.nodes.len()
     }
 
     pub(crate) fn positions(&self) -> usize
@@ -117,17 +100,13 @@ impl Draft {
     pub(crate) fn places(&self) -> &[Node]
         ensures { result.now ≡ drafted self.now }
     {
-        &self.nodes[..self.len]
+        self.nodes.as_slice()
     }
 
     // The place with the given index, counted from 0.
     pub(crate) fn place(&self, index: usize) -> Option<Node>
-        ensures { PlaceAt (drafted self.now) index result }
+        ensures { result ≡ slice_get (drafted self.now) index }
     {
-        if index < self.len {
-            Some(self.nodes[index])
-        } else {
-            None
-        }
+        self.nodes.get(index)
     }
 }

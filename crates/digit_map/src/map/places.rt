@@ -1,5 +1,4 @@
-ghost use Rattle.std.specs.Prelude.{◌≡◌, true, length};
-ghost use Rattle.digit_map.specs.Nodes.{PlaceAt};
+ghost use Rattle.std.specs.Prelude.{◌≡◌, true, length, slice_get};
 ghost use Rattle.digit_map.specs.Nodes.{count_positions, count_ends};
 ghost use Rattle.digit_map.specs.Drafts.{drafted};
 ghost use Rattle.digit_map.specs.Proper.{proper};
@@ -53,7 +52,7 @@ impl Map {
 
     // The place with the given index, counted from 0.
     pub fn place(&self, index: usize) -> Option<Node>
-        ensures { PlaceAt (places self.now) index result }
+        ensures { result ≡ slice_get (places self.now) index }
     {
         self.draft.place(index)
     }

@@ -1,30 +1,24 @@
 -- A dot behind the last place keeps both counts. Assumes nothing.
-use Rattle.std.proofs.Common.{◌-◌, sym, refl, ap, ◌∙◌, arith}
-use Rattle.std.proofs.lemmas.List.{length-set}
-use Rattle.digit_map.specs.Nodes.{count_positions, count_ends}
-use Rattle.digit_map.proofs.Places.{dots_last}
+use Rattle.std.proofs.Common.{rules, ◌≡◌, sym, ap, ◌∙◌, arith}
+use Rattle.keypad.specs.Rows.{listed}
+use Rattle.digit_map.specs.Nodes.{count_positions, count_ends, with_dot_lem, dot_last_lem}
+use Rattle.digit_map.specs.Drafts.{drafted}
+use Rattle.digit_map.proofs.Places.{dots_last, dots_none}
 use Rattle.digit_map.proofs.NodeLaws.{positions_dot_last, ends_dot_last}
 use Rattle.digit_map.proofs.draft.Draft.dot_last.Goals as goal
 
 pub invariant_of-self : goal.invariant_of-self
 invariant_of-self c =
-    let m = c.args.self.now in
-    let e = dots_last m.nodes m.len _ c.with_dot.result c.with_dot.ensures
-    c.if-self-gt0.true (omega arith) in
-    let p = ap count_positions e ∙ positions_dot_last _ in
-    let q = ap count_ends e ∙ ends_dot_last _ in
-    record {
-      full = length-set m.nodes (m.len - 1) _ ∙ m.full;
-      few = m.few;
-      counted = m.counted ∙ sym p;
-      ended = m.ended ∙ sym q;
-    }
+    let ns = drafted c.args.self.now in
+    let e = c.set.ensures
+    ∙ dots_last ns _ _ _ (search rules) (sym c.get.ensures ∙ c.in-Some.is) (omega arith) in
+    let p = ap count_positions e ∙ positions_dot_last ns in
+    let q = ap count_ends e ∙ ends_dot_last ns in
+    record { counted = omega arith; ended = omega arith }
 
-pub returns-then-self-gt0 : goal.returns-then-self-gt0
-returns-then-self-gt0 c =
-    let m = c.args.self.now in
-    record {
-      places = dots_last m.nodes m.len _ c.with_dot.result c.with_dot.ensures
-          c.if-self-gt0.true (omega arith);
-      timers = refl;
-    }
+pub returns-in-Some-clause-places : goal.returns-in-Some-clause-places
+returns-in-Some-clause-places c =
+    c.set.ensures ∙ dots_last _ _ _ _ (search rules) (sym c.get.ensures ∙ c.in-Some.is) (omega arith)
+
+pub returns-in_default-clause-places : goal.returns-in_default-clause-places
+returns-in_default-clause-places c = sym (dots_none _ _ (sym c.get.ensures ∙ c.in_default.is) (omega arith))

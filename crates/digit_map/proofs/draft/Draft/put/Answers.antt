@@ -1,33 +1,20 @@
 -- One position more: the counts, and the places. Assumes nothing.
-use Rattle.std.proofs.Common.{◌<◌, length, refl, ◌∙◌, arith}
-use Rattle.std.proofs.lemmas.List.{length-set, take_more_set}
-use Rattle.digit_map.specs.Nodes.{awaiting}
-use Rattle.digit_map.proofs.Places.{counts_take, positions_put, ends_put}
+use Rattle.std.proofs.Common.{ap, ◌∙◌, arith}
+use Rattle.digit_map.specs.Nodes.{awaiting, count_positions, count_ends}
+use Rattle.digit_map.specs.Drafts.{drafted}
+use Rattle.digit_map.proofs.Places.{pushed, positions_push, ends_push}
 use Rattle.digit_map.proofs.draft.Draft.put.Goals as goal
-
-pub bounds-self-self : goal.bounds-self-self
-bounds-self-self c =
-    let m = c.args.self.now in
-    let k = counts_take m.nodes m.len (omega arith) in
-    omega arith
 
 pub invariant_of-self : goal.invariant_of-self
 invariant_of-self c =
     let m = c.args.self.now in
-    let k = counts_take m.nodes m.len (omega arith) in
-    let h : m.len < length m.nodes = omega arith in
+    let ns = drafted m in
     let n = awaiting c.args.position c.args.mark c.args.marked in
-    let p = positions_put m.nodes m.len n h in
-    let e = ends_put m.nodes m.len n h in
-    record {
-      full = length-set m.nodes m.len n ∙ m.full;
-      few = omega arith;
-      counted = omega arith;
-      ended = omega arith;
-    }
+    let e = c.push.ensures ∙ pushed ns n (omega arith) in
+    let p = ap count_positions e ∙ positions_push ns n in
+    let q = ap count_ends e ∙ ends_push ns n in
+    record { counted = omega arith; ended = omega arith }
 
-pub returns : goal.returns
-returns c =
-    let m = c.args.self.now in
-    let k = counts_take m.nodes m.len (omega arith) in
-    record { places = take_more_set m.nodes m.len _ (omega arith); timers = refl }
+pub returns-clause-places : goal.returns-clause-places
+returns-clause-places c =
+    c.push.ensures ∙ pushed (drafted c.args.self.now) _ (omega arith)
