@@ -1,4 +1,4 @@
-ghost use Rattle.std.specs.Prelude.{◌≡◌};
+ghost use Rattle.std.specs.Prelude.{◌≡◌, ◌≤◌};
 ghost use Rattle.keypad.specs.Rows.{listed};
 ghost use Rattle.digit_map.specs.Nodes.{count_positions, count_ends};
 
@@ -15,7 +15,7 @@ pub struct Draft {
     timers: Timers,
     nodes: Row<Node, 320>,
     positions: usize,
-    alternatives: usize,
     ghost counted: { positions ≡ count_positions (listed nodes) },
-    ghost ended: { alternatives ≡ count_ends (listed nodes) },
+    ghost few: { positions ≤ 255 },
+    ghost ended: { count_ends (listed nodes) ≤ 64 },
 }

@@ -23,14 +23,12 @@ impl Draft {
             timers,
             nodes: Row::of(end),
             positions: 0,
-            alternatives: 0,
         }
     }
 
     // One position more.
     pub(crate) fn put(&mut self, position: Position, mark: Mark, marked: bool)
-        requires positions { count_positions (drafted self.old) < 255 }
-        requires ends { count_ends (drafted self.old) < 65 }
+        requires { count_positions (drafted self.old) < 255 }
         ensures places { drafted self.new ≡ drafted self.old ++ awaiting position mark marked ∷ [] }
         ensures timers { self.new.timers ≡ self.old.timers }
     {
@@ -44,8 +42,7 @@ impl Draft {
 
     // The end of an alternative.
     pub(crate) fn end(&mut self, mark: Mark, marked: bool)
-        requires positions { count_positions (drafted self.old) < 256 }
-        requires ends { count_ends (drafted self.old) < 64 }
+        requires { count_ends (drafted self.old) < 64 }
         ensures places { drafted self.new ≡ drafted self.old ++ ending mark marked ∷ [] }
         ensures timers { self.new.timers ≡ self.old.timers }
     {
@@ -54,7 +51,6 @@ impl Draft {
             mark,
             marked,
         });
-        self.alternatives += 1;
     }
 
     // A dot behind the last position.
@@ -94,7 +90,10 @@ impl Draft {
     pub(crate) fn alternatives(&self) -> usize
         ensures { result ≡ count_ends (drafted self.now) }
     {
-        self.alternatives
+        self.places()
+            .iter()
+            .filter(|node| node.awaits.is_none())
+            .count()
     }
 
     pub(crate) fn places(&self) -> &[Node]

@@ -1,7 +1,6 @@
 -- A dot behind the last place keeps both counts. Assumes nothing.
-use Rattle.std.proofs.Common.{rules, ◌≡◌, sym, ap, ◌∙◌, arith}
-use Rattle.keypad.specs.Rows.{listed}
-use Rattle.digit_map.specs.Nodes.{count_positions, count_ends, with_dot_lem, dot_last_lem}
+use Rattle.std.proofs.Common.{rules, sym, ap, ◌∙◌, arith}
+use Rattle.digit_map.specs.Nodes.{count_positions, count_ends}
 use Rattle.digit_map.specs.Drafts.{drafted}
 use Rattle.digit_map.proofs.Places.{dots_last, dots_none}
 use Rattle.digit_map.proofs.NodeLaws.{positions_dot_last, ends_dot_last}
@@ -14,7 +13,7 @@ invariant_of-self c =
     ∙ dots_last ns _ _ _ (search rules) (sym c.get.ensures ∙ c.in-Some.is) (omega arith) in
     let p = ap count_positions e ∙ positions_dot_last ns in
     let q = ap count_ends e ∙ ends_dot_last ns in
-    record { counted = omega arith; ended = omega arith }
+    record { counted = omega arith; few = omega arith; ended = omega arith }
 
 pub returns-in-Some-clause-places : goal.returns-in-Some-clause-places
 returns-in-Some-clause-places c =
