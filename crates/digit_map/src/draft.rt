@@ -9,7 +9,8 @@ use keypad::timers::Timers;
 pub mod places;
 
 // A map as it is read: its timers, and the places of its alternatives so far, one behind another, each
-// alternative's end as its last place.
+// alternative's end as its last place. It has at most 255 positions, which are counted as they come, since
+// every sign asks for their number, and at most 64 ends.
 #[derive(Clone, Copy)]
 pub struct Draft {
     timers: Timers,
