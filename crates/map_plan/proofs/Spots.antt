@@ -1,18 +1,18 @@
 -- The places of a map, by their index. Assumes nothing.
 use Rattle.std.proofs.Common.{◌≡◌, ℕ, zero, suc, ◌&&◌, subst, zero-add, add-zero, cond, ◌||◌, ◌+◌, ◌<◌, Bool, true, false, List, [], ◌∷◌, length, get_or, drop, Option, sym, refl, ap, ◌∙◌, ⊎_elim, arith}
+use Rattle.std.specs.List.{list_any, enumerate_from, filter}
 use Rattle.std.proofs.lemmas.List.{drop-drop, drop_all, drop_more}
 use Rattle.std.proofs.lemmas.Bool.{both_ways, cases_lt, and_parts, and_from, or_cases, or_left, or_right}
 use Rattle.keypad.specs.declared.key.Mark.{Mark}
-use Rattle.keypad.specs.Answers.{Tells}
-use Rattle.std.specs.List.{list_any, enumerate_from, filter}
 use Rattle.keypad.specs.Entries.{Entry}
+use Rattle.keypad.specs.Answers.{Tells}
 use Rattle.digit_map.specs.declared.node.Position.{Position}
 use Rattle.digit_map.specs.declared.node.Node.{Node}
 use Rattle.digit_map.specs.Meaning.{Says, closes, takes, repeats, skips}
 use Rattle.map_plan.specs.declared.places.Places.{Places}
 use Rattle.map_plan.specs.Members.{holds}
-use Rattle.map_plan.specs.Live.{SomeLive}
 use Rattle.map_plan.specs.Asking.{answered}
+use Rattle.map_plan.specs.Live.{SomeLive}
 
 -- the place of a node, given by its fields
 abbrev pub node : Option Position → Mark → Bool → Node

@@ -3,11 +3,11 @@ use Rattle.std.specs.Prelude.{Bool, Option}
 use Rattle.keypad.specs.declared.key.Symbol.{Symbol}
 use Rattle.keypad.specs.Entries.{Entries}
 use Rattle.keypad.specs.Sets.{Same}
+use Rattle.digit_map.specs.declared.node.Node.{Node}
 use Rattle.digit_map.specs.Maps.{places}
 use Rattle.digit_map.specs.Meaning.{MapEntry}
 use Rattle.map_plan.specs.declared.places.Places.{Places}
 use Rattle.map_plan.specs.declared.plan.MapPlan.{MapPlan}
-use Rattle.digit_map.specs.declared.node.Node.{Node}
 use Rattle.map_plan.specs.Live.{Rest, SomeLive, remaining}
 
 -- the map's entries
