@@ -10,6 +10,7 @@ use keypad::plan::Plan;
 // A plan behind a code: the keys of the code come first, each plain and unmarked, and then what the part
 // admits. The code is the first `count` of `keys`, and `at` of them have been pressed. Over a part that
 // admits nothing it opens nothing.
+#[derive(Drop)]
 pub struct CodedPlan<P> {
     keys: [u8; 8],
     count: usize,

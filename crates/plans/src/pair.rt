@@ -9,6 +9,7 @@ use keypad::plan::Plan;
 
 // Two plans side by side: it admits what either admits. A part that does not take a key that the other takes
 // is out until the rewind.
+#[derive(Drop)]
 pub struct PairPlan<P, Q> {
     first: P,
     second: Q,
