@@ -11,18 +11,7 @@ use Rattle.keypad.specs.Answers.{Tells, Pressed, Timing}
 use Rattle.plans.specs.Pairs.{Either, Live, longer}
 use Rattle.plans.specs.Questions.{Question, starts, waits}
 
--- a set that is in tells what it tells alone
-pub tells_in : (F : Entries → Type 0) (a : Entries) (i r x : Bool) → i ≡ true → x ≡ r → Tells (F a) r
-    → Tells (F (Live i a)) x
-tells_in F a i r x e s t = subst (λ j. Tells (F (Live j a)) x) (sym e) (subst (Tells (F a)) (sym s) t)
-
 module _ (F : Entries → Type 0) (q : Question F) where
-  -- a set that is out says no
-  pub tells_out : (a : Entries) (i x : Bool) → i ≡ false → x ≡ i → Tells (F (Live i a)) x
-  tells_out a i x e s =
-      subst (Tells (F (Live i a))) (sym s) (subst (λ j. Tells (F (Live j a)) j) (sym e)
-      (q.none (λ _. ⊥) (λ _ n. n)))
-
   -- where the one says yes, both together do
   pub tells_first : (a b : Entries) (r : Bool) → r ≡ true → Tells (F a) r → Tells (F (Either a b)) r
   tells_first a b true e t = ∥∥₁_map t (q.keeps a (Either a b) (λ e. inl))
@@ -48,54 +37,29 @@ either_after a b x y s p q e = (
 )
 
 -- a set that took the symbol is in with what remains, any other is out
-pub live_after_lem : (a x : Entries) (s : Symbol) (i r : Bool) → Pressed (Live i a) s r (Live i x)
-    → Same (Live r x) (After (Live i a) s)
+live_after_lem : (a x : Entries) (s : Symbol) (i r : Bool) → Pressed a s r (Live i x)
+    → Same (Live r x) (After a s)
 live_after_lem a x s true true p = p.1
-live_after_lem a x s false true p = absurd (∥∥₁_elim p.0 ⊥_prop (λ u. u.2))
+live_after_lem a x s false true p = absurd (∥∥₁_elim p.0 ⊥_prop (λ u. (p.1 u.1).1 (u.0, u.2)))
 live_after_lem a x s i false p = λ e. (λ n. absurd n, λ v. absurd (p.0 (v.0, e, v.1)))
 
 pressed_tells : (a x : Entries) (s : Symbol) (r : Bool) → Pressed a s r x → Tells (Starts a s) r
 pressed_tells a x s true p = p.0
 pressed_tells a x s false p = p.0
 
-module _ (a b x y : Entries) (s : Symbol) (i j r t : Bool)
-    (p : Pressed (Live i a) s r (Live i x)) (q : Pressed (Live j b) s t (Live j y)) where
-  -- one of the two at least took the symbol
-  pub pressed_some : (r ≡ true) ⊎ (t ≡ true)
-      → Pressed (Either (Live i a) (Live j b)) s true (Either (Live r x) (Live t y))
-  pressed_some h = (
-    ⊎_elim
-        (λ e. ∥∥₁_map (subst (Tells (Starts (Live i a) s)) e (pressed_tells (Live i a) (Live i x) s r p))
-        ((starts s).keeps (Live i a) (Either (Live i a) (Live j b)) (λ _. inl)))
-        (λ e. ∥∥₁_map (subst (Tells (Starts (Live j b) s)) e (pressed_tells (Live j b) (Live j y) s t q))
-        ((starts s).keeps (Live j b) (Either (Live i a) (Live j b)) (λ _. inr)))
-        h,
-    either_after (Live i a) (Live j b) (Live r x) (Live t y) s (live_after_lem a x s i r p)
-        (live_after_lem b y s j t q),
-  )
-
-  -- neither took it
-  pub pressed_none : r ≡ false → t ≡ false
-      → Pressed (Either (Live i a) (Live j b)) s false (Either (Live i x) (Live j y))
-  pressed_none e f =
-      let u : Pressed (Live i a) s false (Live i x) = subst (λ k. Pressed (Live i a) s k (Live i x)) e p in
-      let v : Pressed (Live j b) s false (Live j y) = subst (λ k. Pressed (Live j b) s k (Live j y)) f q in (
-        λ w. ⊎_elim u.0 v.0 ((starts s).splits (Live i a) (Live j b) w),
-        either_same (Live i x) (Live j y) (Live i a) (Live j b) u.1 v.1,
-      )
-
--- the marks of the parts that are in
-pub timing_in : (a : Entries) (i : Bool) (m n : Mark) → i ≡ true → m ≡ n → Timing a n → Timing (Live i a) m
-timing_in a i m n e f t = subst (λ j. Timing (Live j a) m) (sym e) (subst (Timing a) (sym f) t)
-
-pub timing_out : (a : Entries) (i : Bool) (m : Mark) → i ≡ false → m ≡ Unmarked → Timing (Live i a) m
-timing_out a i m e f =
-    subst (λ j. Timing (Live j a) m) (sym e)
-    (subst (Timing (λ _. ⊥)) (sym f) (
-      (waits Long).none (λ _. ⊥) (λ _ n. n),
-      (waits Short).none (λ _. ⊥)
-          (λ _ n. n),
-    ))
+-- one of the two at least took the symbol
+pub pressed_some : (a b x y : Entries) (s : Symbol) (i j r t : Bool) → (r ≡ true) ⊎ (t ≡ true)
+    → Pressed a s r (Live i x) → Pressed b s t (Live j y)
+    → Pressed (Either a b) s true (Either (Live r x) (Live t y))
+pressed_some a b x y s i j r t h p q = (
+  ⊎_elim
+      (λ e. ∥∥₁_map (subst (Tells (Starts a s)) e (pressed_tells a (Live i x) s r p))
+      ((starts s).keeps a (Either a b) (λ _. inl)))
+      (λ e. ∥∥₁_map (subst (Tells (Starts b s)) e (pressed_tells b (Live j y) s t q))
+      ((starts s).keeps b (Either a b) (λ _. inr)))
+      h,
+  either_after a b (Live r x) (Live t y) s (live_after_lem a x s i r p) (live_after_lem b y s j t q),
+)
 
 module _ (a b : Entries) where
   no : (m : Mark) → (Under a m → ⊥) → (Under b m → ⊥) → Under (Either a b) m → ⊥

@@ -7,120 +7,136 @@ ghost use Rattle.std.proofs.Common.{rules};
 use keypad::key::{Mark, Symbol};
 use keypad::plan::Plan;
 
+// A plan while it is live. One that is not takes nothing until the rewind.
+#[derive(Drop)]
+struct Part<P> {
+    plan: P,
+    live: bool,
+}
+
+impl<P: Plan> Plan for Part<P> {
+    ghost whole = { λ p. P.Plan.whole p.plan };
+
+    ghost rest = { λ p. Live p.live (P.Plan.rest p.plan) };
+
+    ghost stepped = { λ p. P.Plan.stepped p.plan };
+
+    fn rewind(&mut self) {
+        self.plan.rewind();
+        self.live = true;
+    }
+
+    fn open(&self, symbol: Symbol) -> bool {
+        self.live && self.plan.open(symbol)
+    }
+
+    fn press(&mut self, symbol: Symbol) -> bool {
+        self.live && self.plan.press(symbol)
+    }
+
+    fn satisfied(&self) -> bool {
+        self.live && self.plan.satisfied()
+    }
+
+    fn settled(&self) -> bool {
+        self.live && self.plan.settled()
+    }
+
+    fn goes_on(&self) -> bool {
+        self.live && self.plan.goes_on()
+    }
+
+    fn timing(&self) -> Mark {
+        if self.live {
+            self.plan.timing()
+        } else {
+            Mark::Unmarked
+        }
+    }
+}
+
 // Two plans side by side: it admits what either admits. A part that does not take a key that the other takes
 // is out until the rewind.
 #[derive(Drop)]
 pub struct PairPlan<P, Q> {
-    first: P,
-    second: Q,
-    first_in: bool,
-    second_in: bool,
+    first: Part<P>,
+    second: Part<Q>,
 }
 
 impl<P: Plan, Q: Plan> PairPlan<P, Q> {
     // Rewinds both parts and has both in.
     pub fn new(first: P, second: Q) -> PairPlan<P, Q>
         ensures { Paired (P.Plan.whole first) (Q.Plan.whole second)
-            (Either (P.Plan.whole result.first) (Q.Plan.whole result.second))
-            (Either (Live result.first_in (P.Plan.rest result.first))
-            (Live result.second_in (Q.Plan.rest result.second))) }
+            (Either (P.Plan.whole result.first.plan) (Q.Plan.whole result.second.plan))
+            (Either (Live result.first.live (P.Plan.rest result.first.plan))
+            (Live result.second.live (Q.Plan.rest result.second.plan))) }
     {
-        let mut plan = PairPlan {
-            first,
-            second,
-            first_in: true,
-            second_in: true,
+        let mut pair = PairPlan {
+            first: Part {
+                plan: first,
+                live: true,
+            },
+            second: Part {
+                plan: second,
+                live: true,
+            },
         };
-        plan.rewind();
-        plan
+        pair.rewind();
+        pair
     }
 
     // Takes the pair apart and hands both parts back as they stand.
     pub fn into_parts(self) -> (P, Q)
-        ensures { result ≡ (self.first, self.second) }
+        ensures { result ≡ (self.first.plan, self.second.plan) }
     {
-        let PairPlan {
-            first,
-            second,
-            first_in: _,
-            second_in: _,
-        } = self;
-        (first, second)
+        (self.first.plan, self.second.plan)
     }
 }
 
 impl<P: Plan, Q: Plan> Plan for PairPlan<P, Q> {
-    ghost whole = { λ p. Either (P.Plan.whole p.first) (Q.Plan.whole p.second) };
+    ghost whole = { λ p. Either (P.Plan.whole p.first.plan) (Q.Plan.whole p.second.plan) };
 
-    ghost rest = { λ p. Either (Live p.first_in (P.Plan.rest p.first))
-        (Live p.second_in (Q.Plan.rest p.second)) };
+    ghost rest = { λ p. Either (Live p.first.live (P.Plan.rest p.first.plan))
+        (Live p.second.live (Q.Plan.rest p.second.plan)) };
 
     ghost stepped = { Prim.search rules };
 
     fn rewind(&mut self) {
         self.first.rewind();
         self.second.rewind();
-        self.first_in = true;
-        self.second_in = true;
     }
 
     fn open(&self, symbol: Symbol) -> bool {
-        let first_opens = self.first_in && self.first.open(symbol);
-        let second_opens = self.second_in && self.second.open(symbol);
-        first_opens || second_opens
+        self.first.open(symbol) || self.second.open(symbol)
     }
 
+    // Both parts are pressed, also where the first takes the symbol.
     fn press(&mut self, symbol: Symbol) -> bool {
-        let first_takes = press_live(self.first_in, &mut self.first, symbol);
-        let second_takes = press_live(self.second_in, &mut self.second, symbol);
-        if first_takes || second_takes {
-            self.first_in = first_takes;
-            self.second_in = second_takes;
-            return true;
+        let first_takes = self.first.press(symbol);
+        let second_takes = self.second.press(symbol);
+        let taken = first_takes || second_takes;
+        if taken {
+            self.first.live = first_takes;
+            self.second.live = second_takes;
         }
-        false
+        taken
     }
 
     fn satisfied(&self) -> bool {
-        let first_ends = self.first_in && self.first.satisfied();
-        let second_ends = self.second_in && self.second.satisfied();
-        first_ends || second_ends
+        self.first.satisfied() || self.second.satisfied()
     }
 
     fn settled(&self) -> bool {
-        let first_settles = self.first_in && self.first.settled();
-        let second_settles = self.second_in && self.second.settled();
-        first_settles || second_settles
+        self.first.settled() || self.second.settled()
     }
 
     fn goes_on(&self) -> bool {
-        let first_goes = self.first_in && self.first.goes_on();
-        let second_goes = self.second_in && self.second.goes_on();
-        first_goes || second_goes
+        self.first.goes_on() || self.second.goes_on()
     }
 
     fn timing(&self) -> Mark {
-        let first_mark = if self.first_in {
-            self.first.timing()
-        } else {
-            Mark::Unmarked
-        };
-        let second_mark = if self.second_in {
-            self.second.timing()
-        } else {
-            Mark::Unmarked
-        };
-        longer_mark(first_mark, second_mark)
+        longer_mark(self.first.timing(), self.second.timing())
     }
-}
-
-// Presses a part that is in. A part that is out takes nothing.
-fn press_live<P: Plan>(live: bool, part: &mut P, symbol: Symbol) -> bool
-    ensures whole { Same (P.Plan.whole part.new) (P.Plan.whole part.old) }
-    ensures rest { Pressed (Live live (P.Plan.rest part.old)) symbol result
-        (Live live (P.Plan.rest part.new)) }
-{
-    live && part.press(symbol)
 }
 
 // The larger of two marks: long over short over unmarked.

@@ -1,43 +1,21 @@
--- What opens a part that is in opens the pair. Assumes nothing.
+-- What opens one of the parts opens the pair. Assumes nothing.
 use Rattle.keypad.specs.Entries.{Entries}
 use Rattle.keypad.specs.Sets.{Starts}
 use Rattle.plans.specs.Pairs.{Live}
 use Rattle.plans.specs.Questions.{starts}
-use Rattle.plans.proofs.Pairs.{tells_in, tells_out, tells_first, tells_second}
+use Rattle.plans.proofs.Pairs.{tells_first, tells_second}
 use Rattle.plans.proofs.pair.PairPlanPlan.open.Goals as goal
-use Rattle.plans.proofs.pair.PairPlanPlan.open.Goals.{then-self, else-self, then-self-2, else-self-2}
 
-pub returns-then-first_opens : goal.returns-then-first_opens
-returns-then-first_opens g c =
-    let F : Entries → Type 0 = λ x. Starts x c.args.symbol in
-    let q = starts c.args.symbol in
+pub returns-then-open : goal.returns-then-open
+returns-then-open g c =
     let p = c.args.self.now in
-    let a : Entries = g.P.Plan.rest p.first in
-    let b : Entries = g.Q.Plan.rest p.second in
-    tells_first F q (Live p.first_in a)
-    (Live p.second_in b) _ c.if-first_opens.true
-    (elim c.if-self.branch [
-      | then-self w ↦ tells_in F a _ _ _
-          w.if-self.true w.first_opens-is w.open-first_opens.ensures
-      | else-self w ↦ tells_out F q a _ _ w.if-self.false w.first_opens-is
-    ])
+    let a : Entries = Live p.first.live (g.P.Plan.rest p.first.plan) in
+    let b : Entries = Live p.second.live (g.Q.Plan.rest p.second.plan) in
+    tells_first (λ x. Starts x c.args.symbol) (starts c.args.symbol) a b _ c.if-open.true c.open.ensures
 
-pub returns-else-first_opens : goal.returns-else-first_opens
-returns-else-first_opens g c =
-    let F : Entries → Type 0 = λ x. Starts x c.args.symbol in
-    let q = starts c.args.symbol in
+pub returns-else-open : goal.returns-else-open
+returns-else-open g c =
     let p = c.args.self.now in
-    let a : Entries = g.P.Plan.rest p.first in
-    let b : Entries = g.Q.Plan.rest p.second in
-    tells_second F q (Live p.first_in a)
-    (Live p.second_in b) _ _ c.if-first_opens.false
-    (elim c.if-self.branch [
-      | then-self w ↦ tells_in F a _ _ _
-          w.if-self.true w.first_opens-is w.open-first_opens.ensures
-      | else-self w ↦ tells_out F q a _ _ w.if-self.false w.first_opens-is
-    ])
-    (elim c.if-self-2.branch [
-      | then-self-2 w ↦ tells_in F b _ _ _
-          w.if-self-2.true w.second_opens-is w.open-second_opens.ensures
-      | else-self-2 w ↦ tells_out F q b _ _ w.if-self-2.false w.second_opens-is
-    ])
+    let a : Entries = Live p.first.live (g.P.Plan.rest p.first.plan) in
+    let b : Entries = Live p.second.live (g.Q.Plan.rest p.second.plan) in
+    tells_second (λ x. Starts x c.args.symbol) (starts c.args.symbol) a b _ _ c.if-open.false c.open.ensures c.open-else-open.ensures

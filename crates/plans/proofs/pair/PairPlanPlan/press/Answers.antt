@@ -1,31 +1,23 @@
--- A press that some part takes, and one that neither takes. Assumes nothing.
-use mathlib.Core.Logic.{⊎_map}
-use Rattle.plans.proofs.Pairs.{either_same, pressed_some, pressed_none}
+-- What is left of the pair where one of its parts takes the symbol. Assumes nothing.
+use Rattle.std.proofs.Common.{sym, ◌∙◌, inl, inr}
+use Rattle.keypad.specs.Entries.{Entries}
+use Rattle.plans.specs.Pairs.{Live}
+use Rattle.plans.proofs.Pairs.{pressed_some}
 use Rattle.plans.proofs.pair.PairPlanPlan.press.Goals as goal
+use Rattle.plans.proofs.pair.PairPlanPlan.press.Goals.{then-first_takes, else-first_takes}
 
-pub returns-then-first_takes : goal.returns-then-first_takes
-returns-then-first_takes g c =
+pub returns-then-taken-clause-rest : goal.returns-then-taken-clause-rest
+returns-then-taken-clause-rest g c =
     let p = c.args.self.now in
-    let one = c.press_live-first_takes in
-    let other = c.press_live-second_takes in
-    record {
-      whole = either_same _ _ _ _ one.ensures.whole other.ensures.whole;
-      rest = pressed_some (g.P.Plan.rest p.first) (g.Q.Plan.rest p.second)
-          (g.P.Plan.rest one.new.part) (g.Q.Plan.rest other.new.part)
-          c.args.symbol p.first_in p.second_in one.result other.result
-          one.ensures.rest other.ensures.rest
-          (⊎_map (λ h. h) (λ h. h.1) c.then-first_takes.either);
-    }
-
-pub returns : goal.returns
-returns g c =
-    let p = c.args.self.now in
-    let one = c.press_live-first_takes in
-    let other = c.press_live-second_takes in
-    record {
-      whole = either_same _ _ _ _ one.ensures.whole other.ensures.whole;
-      rest = pressed_none (g.P.Plan.rest p.first) (g.Q.Plan.rest p.second)
-          (g.P.Plan.rest one.new.part) (g.Q.Plan.rest other.new.part)
-          c.args.symbol p.first_in p.second_in one.result other.result
-          one.ensures.rest other.ensures.rest c.if-first_takes.false c.if-second_takes.false;
-    }
+    let one = c.press-first_takes in
+    let other = c.press-second_takes in
+    let a : Entries = Live p.first.live (g.P.Plan.rest p.first.plan) in
+    let b : Entries = Live p.second.live (g.Q.Plan.rest p.second.plan) in
+    rw c.if-taken.true
+    (pressed_some a b (g.P.Plan.rest one.new.self.plan) (g.Q.Plan.rest other.new.self.plan)
+    c.args.symbol one.new.self.live other.new.self.live one.result other.result
+    (elim c.if-first_takes.branch [
+      | then-first_takes w ↦ inl w.if-first_takes.true
+      | else-first_takes w ↦ inr (sym w.taken-is ∙ c.if-taken.true)
+    ])
+    one.ensures.rest other.ensures.rest)
