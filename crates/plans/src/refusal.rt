@@ -5,21 +5,16 @@ ghost use Rattle.plans.specs.Refusals.{refusal_number};
 // are more than 4,096 lots.
 #[derive(Clone, Copy, PartialEq, Eq, Debug)]
 pub enum Refusal {
-    CodeLength,
-    CodeKey,
-    Width,
-    Lots,
+    CodeLength = 60,
+    CodeKey = 61,
+    Width = 62,
+    Lots = 63,
 }
 
 impl Refusal {
     pub fn number(self) -> u8
         ensures { result ≡ refusal_number self }
     {
-        match self {
-            Refusal::CodeLength => 60,
-            Refusal::CodeKey => 61,
-            Refusal::Width => 62,
-            Refusal::Lots => 63,
-        }
+        self as u8
     }
 }
