@@ -1,8 +1,7 @@
 -- What remains of the entries of listed lots, and what a pressed digit leaves. Assumes nothing.
-use Rattle.std.specs.Prelude.{◌≡◌, ℕ, suc, ◌+◌, ◌-◌, ◌*◌, ◌/◌, ◌%◌, ◌^◌, ◌<◌, ◌≤◌, Bool, true, false, List, [], length, ◌≢◌, slice_index, refl}
+use Rattle.std.specs.Prelude.{◌≡◌, ℕ, suc, ◌+◌, ◌-◌, ◌*◌, ◌/◌, ◌%◌, ◌^◌, ◌<◌, ◌≤◌, Bool, true, false, List, [], ◌≢◌, refl}
 use Rattle.std.proofs.Common.{sym, ◌∙◌, ap, subst, ⊎_elim, mod-eq_of_lt, arith}
 use Rattle.std.proofs.Math.Nat.{div-eq_of_lt}
-use Rattle.std.proofs.ByRecursion.{has_get_or}
 use Rattle.std.proofs.lemmas.Bool.{cases_lt}
 use Rattle.keypad.specs.declared.key.Symbol.{Symbol}
 use Rattle.keypad.specs.declared.key.Symbol.TheVariants as symbol
@@ -164,15 +163,3 @@ module _ (ns : List ℕ) (w : ℕ) where
 
   pub listed_empty : ((n : ℕ) → Fitting ns w n → ⊥) → Empty (listed ns w)
   listed_empty none e (n, fits, is) = none n fits
-
-  -- a listed number that fits and begins so, at its place; and none at any place
-  pub begins_at : (t p i : ℕ) → i < length ns → slice_index ns i < 10 ^ w
-      → slice_index ns i / 10 ^ (w - t) ≡ p → Begins ns w t p
-  begins_at t p i inside fits q = (slice_index ns i, (has_get_or ns i 0 inside, fits), q)
-
-  pub begins_never : (t p : ℕ)
-      → ((k : ℕ) → k < length ns → slice_index ns k < 10 ^ w → slice_index ns k / 10 ^ (w - t) ≢ p)
-      → Begins ns w t p → ⊥
-  begins_never t p missed (n, ((k, inside, at), fits), q) =
-      missed k inside (subst (λ (x : ℕ). x < 10 ^ w) (sym (at 0)) fits)
-      (ap (λ (x : ℕ). x / 10 ^ (w - t)) (at 0) ∙ q)

@@ -14,13 +14,9 @@ impl LotPlan {
     {
         let limit = power_of_ten(self.width);
         let unit = power_of_ten(self.width - digits);
-        let listed = self.lots.as_slice();
-        for lot in listed {
-            if *lot < limit && *lot / unit == value {
-                return true;
-            }
-        }
-        false
+        self.lots
+            .iter()
+            .any(|lot| *lot < limit && *lot / unit == value)
     }
 
     // Whether the key is a digit with which some lot goes on.
