@@ -145,12 +145,7 @@ fn admits<P: Plan>(part: &P) -> bool
 fn are_keys(code: &[u8]) -> bool
     ensures { elim result [ true ↦ Keys code.now | false ↦ (Keys code.now → ⊥) ] }
 {
-    for key in code {
-        if *key > 15 {
-            return false;
-        }
-    }
-    true
+    code.iter().all(|key| *key <= 15)
 }
 
 // The code at the start of eight keys.
