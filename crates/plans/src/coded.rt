@@ -25,8 +25,7 @@ impl<P: Plan> CodedPlan<P> {
     // Rewinds the part and puts the code before it. A refusal hands the part back as it was.
     pub fn new(code: &[u8], part: P) -> Result<CodedPlan<P>, (Refusal, P)>
         ensures { MatchResult result (λ p. Coded code.now (P.Plan.whole part)
-            (Behind (take p.count p.keys) (P.Plan.whole p.part))
-            (Behind (drop p.at (take p.count p.keys)) (P.Plan.rest p.part)))
+            (⟦<CodedPlan<P> as Plan>⟧.whole p) (⟦<CodedPlan<P> as Plan>⟧.rest p))
             (λ e. Refused code.now e.0 × (e.1 ≡ part)) }
     {
         if code.len() < 1 || code.len() > 8 {

@@ -67,9 +67,7 @@ impl<P: Plan, Q: Plan> PairPlan<P, Q> {
     // Rewinds both parts and has both in.
     pub fn new(first: P, second: Q) -> PairPlan<P, Q>
         ensures { Paired (P.Plan.whole first) (Q.Plan.whole second)
-            (Either (P.Plan.whole result.first.plan) (Q.Plan.whole result.second.plan))
-            (Either (Live result.first.live (P.Plan.rest result.first.plan))
-            (Live result.second.live (Q.Plan.rest result.second.plan))) }
+            (⟦<PairPlan<P, Q> as Plan>⟧.whole result) (⟦<PairPlan<P, Q> as Plan>⟧.rest result) }
     {
         let mut pair = PairPlan {
             first: Part {
