@@ -141,10 +141,5 @@ impl<P: Plan, Q: Plan> Plan for PairPlan<P, Q> {
 fn longer_mark(one: Mark, other: Mark) -> Mark
     ensures { result ≡ longer one other }
 {
-    match (one, other) {
-        (Mark::Long, _) => Mark::Long,
-        (Mark::Short, Mark::Long) => Mark::Long,
-        (Mark::Short, _) => Mark::Short,
-        (Mark::Unmarked, mark) => mark,
-    }
+    one.max(other)
 }
