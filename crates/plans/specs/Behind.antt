@@ -1,8 +1,7 @@
 -- What a set of entries behind a code tells. Assumes nothing.
-use Rattle.std.specs.Prelude.{◌≡◌, ℕ, ◌+◌, ◌<◌, ◌≤◌, Bool, true, false, ◌⊎◌, List, [], ◌∷◌, length, take, drop, ◌≢◌, slice_index, refl}
-use Rattle.std.proofs.Common.{sym, ◌∙◌, ap, subst, inl, inr, ⊎_elim, arith, get_or-take, length-take-le}
+use Rattle.std.specs.Prelude.{◌≡◌, ℕ, Bool, true, false, ◌⊎◌, List, [], ◌∷◌, ◌≢◌, refl}
+use Rattle.std.proofs.Common.{sym, ◌∙◌, ap, subst, inl, inr, ⊎_elim, arith}
 use Rattle.std.proofs.Math.Logic.{∥∥₁_map}
-use Rattle.std.proofs.lemmas.List.{drop_more, drop_all}
 use Rattle.keypad.specs.declared.key.Symbol.{Symbol}
 use Rattle.keypad.specs.declared.key.Symbol.TheVariants.{Plain}
 use Rattle.keypad.specs.declared.key.Mark.{Mark}
@@ -137,17 +136,6 @@ module _ (k : ℕ) (ks : List ℕ) (a : Entries) where
     under_behind Long (λ e. let z : ◌≡◌ {A = ℕ} 0 1 = cc in omega arith),
     under_behind Short (λ e. let z : ◌≡◌ {A = ℕ} 0 1 = cc in omega arith),
   )
-
--- the key that comes next, and the keys behind it
-pub next_key : (ks : List ℕ) (n i : ℕ) → n ≤ length ks → i < n
-    → drop i (take n ks) ≡ slice_index ks i ∷ drop (i + 1) (take n ks)
-next_key ks n i h l =
-    drop_more (take n ks) i 0 (omega (arith, length-take-le n ks h))
-    ∙ ap (λ k. k ∷ drop (i + 1) (take n ks)) (get_or-take n ks i 0 l)
-
--- no key is left
-pub no_key : (ks : List ℕ) (n i : ℕ) → n ≤ length ks → n ≤ i → drop i (take n ks) ≡ []
-no_key ks n i h l = drop_all i (take n ks) (omega (arith, length-take-le n ks h))
 
 -- a code over a part that was rewound
 pub made : (ks ms : List ℕ) (a w r : Entries) → Sized ks → Keys ks → ms ≡ ks → Same w a → Same r a

@@ -1,24 +1,22 @@
-ghost use Rattle.std.specs.Prelude.{◌≡◌, ◌<◌, ◌≤◌, true, false, length, take, drop, MatchResult, slice_index};
+ghost use Rattle.std.specs.Prelude.{◌≡◌, ◌+◌, ◌≤◌, true, false, [], ◌∷◌, length, drop, MatchOption, MatchResult};
 ghost use Rattle.keypad.specs.Answers.{Tells};
+ghost use Rattle.keypad.specs.Rows.{listed};
 ghost use Rattle.plans.specs.Coded.{Behind, Any, Keys, Refused, Coded, Takes};
 ghost use Rattle.plans.specs.Behind.{behind_stepped};
 
 use crate::refusal::Refusal;
 use keypad::key::{Mark, Symbol};
 use keypad::plan::Plan;
+use keypad::row::Row;
 
 // A plan behind a code: the keys of the code come first, each plain and unmarked, and then what the part
-// admits. The code is the first `count` of `keys`, and `at` of them have been pressed. Over a part that
-// admits nothing it opens nothing.
+// admits. Of the keys, `at` have been pressed. Over a part that admits nothing it opens nothing.
 #[derive(Drop)]
 pub struct CodedPlan<P> {
-    keys: [u8; 8],
-    count: usize,
+    keys: Row<u8, 8>,
     at: usize,
     part: P,
-    ghost eight: { length keys ≡ 8 },
-    ghost short: { count ≤ 8 },
-    ghost reached: { at ≤ count },
+    ghost reached: { at ≤ length (listed keys) },
 }
 
 impl<P: Plan> CodedPlan<P> {
@@ -34,47 +32,43 @@ impl<P: Plan> CodedPlan<P> {
         if !are_keys(code) {
             return Err((Refusal::CodeKey, part));
         }
+        let mut keys = Row::of(0);
+        keys.extend_from_slice(code);
         let mut part = part;
         part.rewind();
-        Ok(CodedPlan {
-            keys: padded(code),
-            count: code.len(),
-            at: 0,
-            part,
-        })
+        Ok(CodedPlan { keys, at: 0, part })
     }
 
     // Takes the code away and hands the part back as it stands.
     pub fn into_part(self) -> P
         ensures { result ≡ self.part }
     {
-        let CodedPlan {
-            keys: _,
-            count: _,
-            at: _,
-            part,
-        } = self;
-        part
+        self.part
     }
 
-    // While the code is being keyed: whether the symbol is its next key, with something behind it.
-    fn takes(&self, symbol: Symbol) -> bool
-        requires { self.now.at < self.now.count }
-        ensures { Takes symbol (slice_index self.now.keys self.now.at)
-            (P.Plan.rest self.now.part) result }
+    // The key of the code that comes next, none once the code is keyed.
+    fn next_key(&self) -> Option<u8>
+        ensures { let keys = listed self.now.keys in MatchOption result (drop self.now.at keys ≡ [])
+            (λ key. drop self.now.at keys ≡ key ∷ drop (self.now.at + 1) keys) }
     {
-        symbol == Symbol::Plain(self.keys[self.at]) && admits(&self.part)
+        self.keys.get(self.at)
+    }
+
+    // Whether the symbol is the key, with something behind the code.
+    fn takes(&self, key: u8, symbol: Symbol) -> bool
+        ensures { Takes symbol key (P.Plan.rest self.now.part) result }
+    {
+        symbol == Symbol::Plain(key) && admits(&self.part)
     }
 }
 
 impl<P: Plan> Plan for CodedPlan<P> {
-    ghost whole = { λ p. Behind (take p.count p.keys) (P.Plan.whole p.part) };
+    ghost whole = { λ p. Behind (listed p.keys) (P.Plan.whole p.part) };
 
-    ghost rest = { λ p. Behind (drop p.at (take p.count p.keys)) (P.Plan.rest p.part) };
+    ghost rest = { λ p. Behind (drop p.at (listed p.keys)) (P.Plan.rest p.part) };
 
     ghost stepped = { λ p.
-        behind_stepped (take p.count p.keys) (P.Plan.whole p.part)
-        (P.Plan.stepped p.part) };
+        behind_stepped (listed p.keys) (P.Plan.whole p.part) (P.Plan.stepped p.part) };
 
     fn rewind(&mut self) {
         self.part.rewind();
@@ -82,18 +76,17 @@ impl<P: Plan> Plan for CodedPlan<P> {
     }
 
     fn open(&self, symbol: Symbol) -> bool {
-        if self.at < self.count {
-            self.takes(symbol)
-        } else {
-            self.part.open(symbol)
+        match self.next_key() {
+            Some(key) => self.takes(key, symbol),
+            None => self.part.open(symbol),
         }
     }
 
     fn press(&mut self, symbol: Symbol) -> bool {
-        if self.at == self.count {
+        let Some(key) = self.next_key() else {
             return self.part.press(symbol);
-        }
-        let taken = self.takes(symbol);
+        };
+        let taken = self.takes(key, symbol);
         if taken {
             self.at += 1;
         }
@@ -101,34 +94,30 @@ impl<P: Plan> Plan for CodedPlan<P> {
     }
 
     fn satisfied(&self) -> bool {
-        if self.at < self.count {
-            false
-        } else {
-            self.part.satisfied()
+        match self.next_key() {
+            Some(_) => false,
+            None => self.part.satisfied(),
         }
     }
 
     fn settled(&self) -> bool {
-        if self.at < self.count {
-            false
-        } else {
-            self.part.settled()
+        match self.next_key() {
+            Some(_) => false,
+            None => self.part.settled(),
         }
     }
 
     fn goes_on(&self) -> bool {
-        if self.at < self.count {
-            admits(&self.part)
-        } else {
-            self.part.goes_on()
+        match self.next_key() {
+            Some(_) => admits(&self.part),
+            None => self.part.goes_on(),
         }
     }
 
     fn timing(&self) -> Mark {
-        if self.at < self.count {
-            Mark::Unmarked
-        } else {
-            self.part.timing()
+        match self.next_key() {
+            Some(_) => Mark::Unmarked,
+            None => self.part.timing(),
         }
     }
 }
@@ -145,15 +134,4 @@ fn are_keys(code: &[u8]) -> bool
     ensures { elim result [ true ↦ Keys code.now | false ↦ (Keys code.now → ⊥) ] }
 {
     code.iter().all(|key| *key <= 15)
-}
-
-// The code at the start of eight keys.
-fn padded(code: &[u8]) -> [u8; 8]
-    requires { length code.now ≤ 8 }
-    ensures items { take (length code.now) result ≡ code.now }
-    ensures len { length result ≡ 8 }
-{
-    let mut keys = [0; 8];
-    keys[0..code.len()].copy_from_slice(code);
-    keys
 }

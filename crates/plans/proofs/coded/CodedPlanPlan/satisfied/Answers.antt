@@ -1,23 +1,9 @@
--- Nothing has ended within the code; behind it the part tells. Assumes nothing.
-use Rattle.std.proofs.Common.{◌+◌, ◌≤◌, length, get_or, take, drop, sym, subst, arith}
-use Rattle.keypad.specs.Entries.{Entries}
+-- Behind the code the part tells what has ended. Assumes nothing.
 use Rattle.keypad.specs.Sets.{Ended}
-use Rattle.plans.specs.Coded.{Behind}
 use Rattle.plans.specs.Questions.{ends}
-use Rattle.plans.specs.Behind.{ended_behind, tells_behind, next_key, no_key}
+use Rattle.plans.specs.Behind.{tells_behind}
 use Rattle.plans.proofs.coded.CodedPlanPlan.satisfied.Goals as goal
 
-pub returns-then-self : goal.returns-then-self
-returns-then-self g c =
-    let p = c.args.self.now in
-    let a : Entries = g.P.Plan.rest p.part in
-    let h : p.count ≤ length p.keys = omega arith in
-    subst (λ l. Ended (Behind l a) → ⊥) (sym (next_key p.keys p.count p.at h c.if-self.true))
-    (ended_behind (get_or p.keys p.at 0) (drop (p.at + 1) (take p.count p.keys)) a)
-
-pub returns-else-self : goal.returns-else-self
-returns-else-self g c =
-    let p = c.args.self.now in
-    let h : p.count ≤ length p.keys = omega arith in
-    tells_behind Ended ends _ (g.P.Plan.rest p.part) c.satisfied.result
-    (no_key p.keys p.count p.at h c.if-self.false) c.satisfied.ensures
+pub returns-in-None : goal.returns-in-None
+returns-in-None g c =
+    tells_behind Ended ends _ (g.P.Plan.rest c.args.self.now.part) _ c.in-None.ensures c.satisfied.ensures

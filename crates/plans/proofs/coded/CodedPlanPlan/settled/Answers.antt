@@ -1,23 +1,9 @@
--- Nothing is settled within the code; behind it the part tells. Assumes nothing.
-use Rattle.std.proofs.Common.{◌+◌, ◌≤◌, length, get_or, take, drop, sym, subst, arith}
-use Rattle.keypad.specs.Entries.{Entries}
+-- Behind the code the part tells what is settled. Assumes nothing.
 use Rattle.keypad.specs.Sets.{Settled}
-use Rattle.plans.specs.Coded.{Behind}
 use Rattle.plans.specs.Questions.{settles}
-use Rattle.plans.specs.Behind.{settled_behind, tells_behind, next_key, no_key}
+use Rattle.plans.specs.Behind.{tells_behind}
 use Rattle.plans.proofs.coded.CodedPlanPlan.settled.Goals as goal
 
-pub returns-then-self : goal.returns-then-self
-returns-then-self g c =
-    let p = c.args.self.now in
-    let a : Entries = g.P.Plan.rest p.part in
-    let h : p.count ≤ length p.keys = omega arith in
-    subst (λ l. Settled (Behind l a) → ⊥) (sym (next_key p.keys p.count p.at h c.if-self.true))
-    (settled_behind (get_or p.keys p.at 0) (drop (p.at + 1) (take p.count p.keys)) a)
-
-pub returns-else-self : goal.returns-else-self
-returns-else-self g c =
-    let p = c.args.self.now in
-    let h : p.count ≤ length p.keys = omega arith in
-    tells_behind Settled settles _ (g.P.Plan.rest p.part) c.settled.result
-    (no_key p.keys p.count p.at h c.if-self.false) c.settled.ensures
+pub returns-in-None : goal.returns-in-None
+returns-in-None g c =
+    tells_behind Settled settles _ (g.P.Plan.rest c.args.self.now.part) _ c.in-None.ensures c.settled.ensures
