@@ -39,29 +39,22 @@ mod tests {
 
     // The lots 7, 42, 7 and 1000 with three digits.
     fn some_lots(heap: Global) -> Result<LotPlan, Fail> {
-        match LotPlan::new([7, 42, 7, 1000].to_vec(heap)?, 3) {
-            Ok(plan) => Ok(plan),
-            Err(_) => Err(Fail::new("refused")),
-        }
+        LotPlan::new([7, 42, 7, 1000].to_vec(heap)?, 3).map_err(|_| Fail::new("refused"))
     }
 
     // A plan of lots that admits nothing: its one number does not fit.
     fn no_lots(heap: Global) -> Result<LotPlan, Fail> {
-        match LotPlan::new([1000].to_vec(heap)?, 3) {
-            Ok(plan) => Ok(plan),
-            Err(_) => Err(Fail::new("refused")),
-        }
+        LotPlan::new([1000].to_vec(heap)?, 3).map_err(|_| Fail::new("refused"))
     }
 
     // How many of the keys a plan takes before it refuses one, and whether it is satisfied then.
     fn keyed<P: Plan>(plan: &mut P, keys: &[u8]) -> (usize, bool) {
         plan.rewind();
-        for (count, key) in keys.iter().enumerate() {
-            if !plan.press(Symbol::Plain(*key)) {
-                return (count, plan.satisfied());
-            }
-        }
-        (keys.len(), plan.satisfied())
+        let taken = keys
+            .iter()
+            .take_while(|key| plan.press(Symbol::Plain(**key)))
+            .count();
+        (taken, plan.satisfied())
     }
 
     #[test]
@@ -100,7 +93,7 @@ mod tests {
                 let _part = plan.into_part();
                 Ok(0)
             }
-            Err((refusal, _part)) => Ok(refusal.number()),
+            Err((refusal, _)) => Ok(refusal.number()),
         }
     }
 
@@ -159,13 +152,7 @@ mod tests {
 
     // What the keys do to a plan behind the code E5.
     fn behind_code(part: LotPlan, keys: &[u8]) -> Result<(usize, bool), Fail> {
-        match CodedPlan::new(&[14, 5], part) {
-            Ok(mut plan) => {
-                let told = keyed(&mut plan, keys);
-                let _part = plan.into_part();
-                Ok(told)
-            }
-            Err((_, _part)) => Err(Fail::new("refused")),
-        }
+        let mut plan = CodedPlan::new(&[14, 5], part).map_err(|_| Fail::new("refused"))?;
+        Ok(keyed(&mut plan, keys))
     }
 }
