@@ -5,18 +5,15 @@ use Rattle.std.proofs.Math.Logic.{∥∥₁_map}
 use Rattle.keypad.specs.declared.key.Symbol.{Symbol}
 use Rattle.keypad.specs.declared.key.Symbol.TheVariants.{Plain}
 use Rattle.keypad.specs.declared.key.Mark.{Mark}
-use Rattle.keypad.specs.declared.key.Mark.TheVariants.{Unmarked, Short, Long}
+use Rattle.keypad.specs.declared.key.Mark.TheVariants.{Unmarked}
 use Rattle.keypad.specs.Entries.{Step, Entry, Entries, step, prepend, ended}
-use Rattle.keypad.specs.Sets.{Same, Starts, Ended, Settled, GoesOn, Under}
-use Rattle.keypad.specs.Answers.{Tells, Pressed, Timing}
+use Rattle.keypad.specs.Sets.{Same, Starts, Ended, GoesOn}
+use Rattle.keypad.specs.Answers.{Tells, Pressed}
 use Rattle.keypad.specs.Sets.{Empty}
+use Rattle.plans.specs.Fronts.{no_steps}
 use Rattle.plans.specs.Keyed.{behind}
 use Rattle.plans.specs.Questions.{Question, tells_same}
 use Rattle.plans.specs.Coded.{Behind, Any, Sized, Keys, Coded, Takes}
-
--- a step is not nothing
-no_step : {R : Type 0} (s : Step) (ss : List Step) → [] ≡ s ∷ ss → R
-no_step s ss p = absurd (let z : ◌≡◌ {A = ℕ} 0 1 = cc in omega arith)
 
 abbrev tail : List Step → List Step
 tail [] = []
@@ -76,7 +73,7 @@ behind_fertile ks a n e x = n (behind ks e) (e, x, refl)
 pub behind_stepped : (ks : List ℕ) (a : Entries) → ((x : Entry) → a x → x.steps ≢ [])
     → (e : Entry) → Behind ks a e → e.steps ≢ []
 behind_stepped [] a h e x p = h x.0 x.1 (sym (ap (λ (y : Entry). y.steps) x.2) ∙ p)
-behind_stepped (k ∷ ks) a h e x p = no_step _ _ (sym p ∙ ap (λ (y : Entry). y.steps) x.2)
+behind_stepped (k ∷ ks) a h e x p = no_steps _ _ (sym p ∙ ap (λ (y : Entry). y.steps) x.2)
 
 module _ (k : ℕ) (ks : List ℕ) (a : Entries) where
   -- only the next key of the code opens it, and only with something behind it
@@ -108,34 +105,10 @@ module _ (k : ℕ) (ks : List ℕ) (a : Entries) where
   )
   pressed_behind s false e t = absurd (let z : ◌≡◌ {A = ℕ} 0 1 = cc in omega arith)
 
-  pub refused_behind : (s : Symbol) (r : Bool) → r ≡ false → Takes s k a r
-      → Pressed (Behind (k ∷ ks) a) s r (Behind (k ∷ ks) a)
-  refused_behind s false e t = (starts_behind s false t, λ y. (λ x. x, λ x. x))
-  refused_behind s true e t = absurd (let z : ◌≡◌ {A = ℕ} 0 1 = cc in omega arith)
-
-  -- no entry has ended within the code
-  pub ended_behind : Ended (Behind (k ∷ ks) a) → ⊥
-  ended_behind x = no_step _ _ (ap (λ (y : Entry). y.steps) x.2.2)
-
-  pub settled_behind : Settled (Behind (k ∷ ks) a) → ⊥
-  settled_behind x = no_step _ _ (ap (λ (y : Entry). y.steps) x.1.2)
-
   -- each goes on
   pub goes_behind : (r : Bool) → Tells (Any a) r → Tells (GoesOn (Behind (k ∷ ks) a)) r
   goes_behind true t = ∥∥₁_map t (λ x. (step (Plain k) Unmarked, behind ks x.0, (x.0, x.1, refl)))
   goes_behind false t = λ x. t (x.2.0, x.2.1)
-
-  -- and none is marked
-  under_behind : (m : Mark) → (m ≢ Unmarked) → Under (Behind (k ∷ ks) a) m → ⊥
-  under_behind m n =
-      ⊎_elim (λ x. n (ap (λ (u : Step). u.mark) (same_step _ _ _ _ x.2.2)))
-      (λ x. no_step _ _ (ap (λ (y : Entry). y.steps) x.1.2))
-
-  pub timing_behind : Timing (Behind (k ∷ ks) a) Unmarked
-  timing_behind = (
-    under_behind Long (λ e. let z : ◌≡◌ {A = ℕ} 0 1 = cc in omega arith),
-    under_behind Short (λ e. let z : ◌≡◌ {A = ℕ} 0 1 = cc in omega arith),
-  )
 
 -- a code over a part that was rewound
 pub made : (ks ms : List ℕ) (a w r : Entries) → Sized ks → Keys ks → ms ≡ ks → Same w a → Same r a

@@ -1,17 +1,9 @@
 -- A key goes on where digits are left, it is a digit, and a listed number begins so. Assumes nothing.
-use Rattle.std.proofs.Common.{ℕ, ◌+◌, ◌*◌, vec_items, sym, subst, ⊎_elim, arith}
+use Rattle.std.proofs.Common.{ℕ, ◌+◌, ◌*◌, vec_items, sym, subst, arith}
 use Rattle.std.proofs.lemmas.Bool.Decides.{Decides-like}
 use Rattle.plans.specs.LotPlans.{LotBegins}
-use Rattle.plans.proofs.Tellings.{decides_no}
 use Rattle.plans.specs.LotsLemmas.{starts_sound, starts_complete}
 use Rattle.plans.proofs.lot.LotPlan.continues.Goals as goal
-
-pub returns-then-self : goal.returns-then-self
-returns-then-self c = let p = c.args.self.now in
-    decides_no (λ x.
-    let sound = starts_sound (vec_items p.lots) p.width p.taken p.prefix c.args.key x in
-    ⊎_elim (λ full. omega (arith, sound.0)) (λ large. omega (arith, large.1, sound.1))
-    c.then-self.either)
 
 pub returns : goal.returns
 returns c = let p = c.args.self.now in

@@ -1,7 +1,6 @@
 -- There is more where digits are left and a listed number begins so. Assumes nothing.
-use Rattle.std.proofs.Common.{vec_items, arith}
-use Rattle.std.proofs.lemmas.Bool.{le-ltb}
-use Rattle.plans.proofs.Tellings.{tells, tells_no}
+use Rattle.std.proofs.Common.{vec_items}
+use Rattle.plans.proofs.Tellings.{tells}
 use Rattle.plans.specs.LotsLemmas.{goes_on_sound, goes_on_complete}
 use Rattle.plans.proofs.lot.plan.LotPlanPlan.goes_on.Goals as goal
 
@@ -11,9 +10,3 @@ returns-then-self c = let p = c.args.self.now in
     (λ b. goes_on_complete (vec_items p.lots) p.width p.taken p.prefix (c.if-self.true, b))
     (λ x. (goes_on_sound (vec_items p.lots) p.width p.taken p.prefix x).1)
     c.any_begins.ensures
-
-pub returns-else-self : goal.returns-else-self
-returns-else-self c = let p = c.args.self.now in
-    let sound = goes_on_sound (vec_items p.lots) p.width p.taken p.prefix in
-    tells_no _ (le-ltb p.taken p.width c.if-self.false)
-    (λ x. omega (arith, (sound x).0, c.if-self.false))

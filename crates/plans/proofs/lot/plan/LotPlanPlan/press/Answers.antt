@@ -1,7 +1,7 @@
 -- An open digit is taken, and leaves what has it next; any other key changes nothing. Assumes nothing.
 use Rattle.std.proofs.Common.{vec_items, arith}
 use Rattle.plans.specs.WritingsLemmas.{below_million, below_more_digits}
-use Rattle.plans.specs.LotsLemmas.{starts_sound, pressed_plain, pressed_long}
+use Rattle.plans.specs.LotsLemmas.{starts_sound, pressed_plain}
 use Rattle.plans.proofs.lot.plan.LotPlanPlan.press.Goals as goal
 
 pub overflow_mul-self : goal.overflow_mul-self
@@ -28,20 +28,8 @@ invariant_of-self c = let p = c.args.self.now in
           (omega (arith, c.from.ensures, known.1));
     }
 
-pub returns-then-taken : goal.returns-then-taken
-returns-then-taken c = let p = c.args.self.now in
-    record {
-      whole = λ e. (λ x. x, λ x. x);
-      rest = pressed_plain (vec_items p.lots) p.width p.taken p.prefix
-          c.from.result c.in-Plain.key c.args.symbol c.continues-taken.result
-          c.in-Plain.is c.if-taken.true c.from.ensures
-          (c.continues-taken.ensures.0 c.if-taken.true);
-    }
-
-pub returns-in_default : goal.returns-in_default
-returns-in_default c = let p = c.args.self.now in
-    record {
-      whole = λ e. (λ x. x, λ x. x);
-      rest = pressed_long (vec_items p.lots) p.width p.taken p.prefix
-          c.in_default.field-0 c.args.symbol c.in_default.is;
-    }
+pub returns-then-taken-clause-rest : goal.returns-then-taken-clause-rest
+returns-then-taken-clause-rest c = let p = c.args.self.now in
+    pressed_plain (vec_items p.lots) p.width p.taken p.prefix c.from.result c.in-Plain.key c.args.symbol
+    c.continues-taken.result c.in-Plain.is c.if-taken.true c.from.ensures
+    (c.continues-taken.ensures.0 c.if-taken.true)

@@ -3,6 +3,5 @@ use Rattle.std.proofs.Common.{vec_items}
 use Rattle.plans.specs.LotsLemmas.{rewound_left}
 use Rattle.plans.proofs.lot.plan.LotPlanPlan.rewind.Goals as goal
 
-pub returns : goal.returns
-returns c = let p = c.args.self.now in
-    record { whole = λ e. (λ x. x, λ x. x); rest = rewound_left (vec_items p.lots) p.width }
+pub returns-clause-rest : goal.returns-clause-rest
+returns-clause-rest c = let p = c.args.self.now in rewound_left (vec_items p.lots) p.width
