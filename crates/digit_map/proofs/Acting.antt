@@ -52,7 +52,8 @@ goes (Ok (OpenSet l)) = true
 goes (Ok Halt) = false
 goes (Err e) = false
 
-halt_stops : (n : ℕ) (p : Progress) (o : ℕ) (here judged : Bool) (l : Last) → goes (at_halt n p o here judged l) ≡ false
+halt_stops : (n : ℕ) (p : Progress) (o : ℕ) (here judged : Bool) (l : Last)
+    → goes (at_halt n p o here judged l) ≡ false
 halt_stops n p o here judged last.Nothing = refl
 halt_stops n p o here judged last.Mark = grind arith
 halt_stops n p o here judged last.Position = grind arith
@@ -67,8 +68,8 @@ end_stops f count p s o a e z =
     ∙ halt_stops f.number p o (not f.bracketed) (not f.bracketed) p.last
 
 -- one that goes on has taken a byte
-module _ (f : Frame) (count : ℕ) (p : Progress) (n : ℕ) (s : Sign) (o : ℕ) (a : Result Act Fault) (goes_on : goes a ≡ true)
-    (e : a ≡ acts sale f count p s o) where
+module _ (f : Frame) (count : ℕ) (p : Progress) (n : ℕ) (s : Sign) (o : ℕ) (a : Result Act Fault)
+    (goes_on : goes a ≡ true) (e : a ≡ acts sale f count p s o) where
   goes_behind : (text : List ℕ) (base : ℕ) (c : Cursor) (x : Token) → Ok (s, o) ≡ sign_at n x
       → behind text base x c ≡ rest text base c
   goes_behind text base c (Byte b k q) h = refl

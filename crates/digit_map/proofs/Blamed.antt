@@ -139,7 +139,8 @@ stopped (on w) l b = absurd (b.no_place w l)
 stopped (done t ns) l b = absurd (b.no_map t ns l)
 stopped (bad f) l b = (f, refl)
 
-field_fault : (t : Timers) (i : Field) (at : ℕ) (y : Option FieldTurn) (f : Fault) → fielded t i at y ≡ bad f →
+field_fault : (t : Timers) (i : Field) (at : ℕ) (y : Option FieldTurn) (f : Fault)
+    → fielded t i at y ≡ bad f →
     fielded t i at y ≡ bad (fault cause.Head at 0)
 field_fault t i at (Some (field.On d)) f e = let z : ◌≡◌ {A = ℕ} 0 1 = cc in absurd (omega arith)
 field_fault t i at (Some (field.Done v)) f e = let z : ◌≡◌ {A = ℕ} 0 1 = cc in absurd (omega arith)
@@ -182,7 +183,8 @@ module _ (t : Timers) (ns : List Node) (f : Frame) (r : Progress) where
       (sign_stops b c o sign.Dot _ e (ap (λ l. acted t ns f r sign.Dot o (at_dot f.number r o l)) h)) refl
       (k z (subst (LastHold z) (sym h) refl)) (λ y. omega arith)
 
-  delayed : (l : Last) (z : ℕ) → l ≡ last.Hold z → (a : Result Act Fault) → unless_held f.number l a ≡ wrong f.number cause.Affix z
+  delayed : (l : Last) (z : ℕ) → l ≡ last.Hold z → (a : Result Act Fault)
+      → unless_held f.number l a ≡ wrong f.number cause.Affix z
   delayed l z h a = ap (λ w. unless_held f.number w a) h
 
   -- a Z that waits stops at whatever is no position
@@ -199,10 +201,12 @@ module _ (t : Timers) (ns : List Node) (f : Frame) (r : Progress) where
   hold_stops z h x o sign.Open n e = exactly _
       (e ∙ ap (acted t ns f r sign.Open o) (delayed r.last z h _)) (λ y. omega arith)
   hold_stops z h x o sign.Close n e = exactly _
-      (e ∙ ap (λ l. acted t ns f r sign.Close o (at_halt f.number r o f.bracketed true l)) h) (λ y. omega arith)
+      (e ∙ ap (λ l. acted t ns f r sign.Close o (at_halt f.number r o f.bracketed true l)) h)
+      (λ y. omega arith)
   hold_stops z h x o sign.Bar n e = exactly _
       (e ∙ ap (λ l. acted t ns f r sign.Bar o (at_halt f.number r o f.bracketed true l)) h) (λ y. omega arith)
-  hold_stops z h x o sign.Dot n e = exactly _ (e ∙ ap (λ l. acted t ns f r sign.Dot o (at_dot f.number r o l)) h)
+  hold_stops z h x o sign.Dot n e = exactly _
+      (e ∙ ap (λ l. acted t ns f r sign.Dot o (at_dot f.number r o l)) h)
       (λ y. omega arith)
   hold_stops z h x o sign.End n e =
       exactly _ (e ∙ ap (λ l. acted t ns f r sign.End o

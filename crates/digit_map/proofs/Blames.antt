@@ -91,8 +91,8 @@ module _ (p : List Token) (x : Token) where
     room_ruled s e b c l a y = cond_both (has_room sale f (count_positions ns)) _ _ (Acted s) (λ _. y)
         (λ h. inl (excess s e b c l h))
 
-    number_ruled : (s : Sign) → token_sign_lem x ≡ s → BeginsElement s → LastFree r.last → (a : Result Act Fault) →
-        Acted s a →
+    number_ruled : (s : Sign) → token_sign_lem x ≡ s → BeginsElement s → LastFree r.last →
+        (a : Result Act Fault) → Acted s a →
         Acted s (cond (in_number_lem sale f) a (wrong f.number cause.Excess (at_of x)))
     number_ruled s e c l a y =
         cond_both (in_number_lem sale f) _ _ (Acted s) (λ _. y)

@@ -96,7 +96,8 @@ module _ (L : Limits) (t : Timers) (f : Frame) where
         acts L f (count_positions (ns ++ us)) (behind_elements u us m e) sign.Hold o
         ≡ Ok (Go (behind_hold u us m e o))
     hold_turn {u = u} {us = us} {m = m} {e = e} x o h =
-        not_waiting f.number e _ ∙ (cond-true _ _ _ h ∙ ap (λ q. Ok (Go q)) (onward_is x o m (is_mark e) (last.Hold o)))
+        not_waiting f.number e _
+        ∙ (cond-true _ _ _ h ∙ ap (λ q. Ok (Go q)) (onward_is x o m (is_mark e) (last.Hold o)))
 
     pub hold_pass : {u : List Token} {us : List Node} {m : Mark} {e : Final} → Elements u us m e →
         (b : ℕ) (c : Bool) (o : ℕ) →
@@ -155,7 +156,9 @@ module _ (L : Limits) (t : Timers) (f : Frame) where
         (k : Mark) (o : ℕ) → in_number_lem L f ≡ true →
         acts L f (count_positions (ns ++ us)) (behind_elements u us m e) (sign.Timer k) o
         ≡ Ok (Go (progress k true (needs_key us) (first_or o u) last.Mark))
-    mark_turn {e = e} x k o h = not_waiting f.number e _ ∙ (cond-true _ _ _ h ∙ ap (λ q. Ok (Go q)) (onward_is x o k true last.Mark))
+    mark_turn {e = e} x k o h =
+        not_waiting f.number e _
+        ∙ (cond-true _ _ _ h ∙ ap (λ q. Ok (Go q)) (onward_is x o k true last.Mark))
 
     mark_pass : {u : List Token} {us : List Node} {m : Mark} {e : Final} → Elements u us m e →
         (b : ℕ) (c : Bool) (o : ℕ) (k : Mark) →

@@ -122,10 +122,12 @@ module _ {text : List ℕ} {c : Cursor} (base : ℕ) (high : c.at ≤ length tex
         moves = tt;
         loosens = tt;
         high = high;
-        is = ap (λ j. tokens j (base + c.at) (ahead text c)) q.0 ∙ gap_here (base + c.at) (ahead text c) p.0 q.1;
+        is = ap (λ j. tokens j (base + c.at) (ahead text c)) q.0
+            ∙ gap_here (base + c.at) (ahead text c) p.0 q.1;
       }
 
-  reaches_by : (j : Bool) → rest text base c ≡ tokens j (base + (c.at + blanks text c)) (drop (c.at + blanks text c) text) →
+  reaches_by : (j : Bool)
+      → rest text base c ≡ tokens j (base + (c.at + blanks text c)) (drop (c.at + blanks text c) text) →
       Reaches text base c (c.at + blanks text c)
   reaches_by j e =
       let l = length-drop c.at text in

@@ -23,7 +23,8 @@ use Rattle.digit_map.proofs.Runs.{run_next}
 
 -- what the field from the cursor c on comes to, whatever was read before it
 abbrev Gives : List ℕ → ℕ → Cursor → Field → ℕ → (Timers → Turn) → Type 0
-Gives text base c i at g = (t : Timers) → run sale (state t [] (in_field i at Letter)) (rest text base c) ≡ g t
+Gives text base c i at g =
+    (t : Timers) → run sale (state t [] (in_field i at Letter)) (rest text base c) ≡ g t
 
 -- a field from the cursor c on, of which the part up to b is read
 pub record FieldUpTo (text : List ℕ) (base : ℕ) (c : Cursor) (i : Field) (at : ℕ) (b : Cursor) (d : Digits)

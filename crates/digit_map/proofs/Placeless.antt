@@ -85,14 +85,16 @@ onward_bare : (p : Progress) (o : ℕ) (m : Mark) (h : Bool) (l : Last) →
     onward (bare_progress p) 0 m h (bare_last l) ≡ bare_progress (onward p o m h l)
 onward_bare p o m h l = onward_by m h p.needs p.first o p.last l
 
-unless_bare : (n : ℕ) (l : Last) (a : Result Act Fault) → unless_held n (bare_last l) (bare_act a) ≡ bare_act (unless_held n l a)
+unless_bare : (n : ℕ) (l : Last) (a : Result Act Fault) →
+    unless_held n (bare_last l) (bare_act a) ≡ bare_act (unless_held n l a)
 unless_bare n last.Nothing a = refl
 unless_bare n last.Mark a = refl
 unless_bare n last.Position a = refl
 unless_bare n last.Dot a = refl
 unless_bare n (last.Hold z) a = refl
 
-if_bare : (l : Last) (a b : Result Act Fault) → if_held (bare_last l) (bare_act a) (bare_act b) ≡ bare_act (if_held l a b)
+if_bare : (l : Last) (a b : Result Act Fault) →
+    if_held (bare_last l) (bare_act a) (bare_act b) ≡ bare_act (if_held l a b)
 if_bare last.Nothing a b = refl
 if_bare last.Mark a b = refl
 if_bare last.Position a b = refl
@@ -114,7 +116,8 @@ module _ (n : ℕ) (p : Progress) (o : ℕ) (here keyless : Bool) where
   ended_bare : cond here (Ok Halt) (wrong n cause.Byte 0) ≡ bare_act ended
   ended_bare = cond_map bare_act here (Ok Halt) (wrong n cause.Byte o)
 
-  judged_bare : cond (keyless && not p.needs) (wrong n cause.Keyless 0) (cond here (Ok Halt) (wrong n cause.Byte 0))
+  judged_bare : cond (keyless && not p.needs) (wrong n cause.Keyless 0)
+      (cond here (Ok Halt) (wrong n cause.Byte 0))
       ≡ bare_act (cond (keyless && not p.needs) (wrong n cause.Keyless p.first) ended)
   judged_bare =
       ap (cond (keyless && not p.needs) (wrong n cause.Keyless 0)) ended_bare
@@ -137,7 +140,8 @@ module _ (L : Limits) (f : Frame) (n : ℕ) (p : Progress) (o : ℕ) where
       (cond (has_room L f n) (Ok (Put (position k false false) w)) (wrong f.number cause.Excess 0)))
       (onward_bare p o p.mark false last.Position)
       ∙ (ap (if_held (bare_last p.last) (Ok (Put (position k true false) (bare_progress q))))
-      (cond_map bare_act (has_room L f n) (Ok (Put (position k false false) q)) (wrong f.number cause.Excess o))
+      (cond_map bare_act (has_room L f n) (Ok (Put (position k false false) q))
+      (wrong f.number cause.Excess o))
       ∙ if_bare p.last (Ok (Put (position k true false) q)) _)
 
   -- what may begin only where no Z waits

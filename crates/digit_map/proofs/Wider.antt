@@ -66,11 +66,13 @@ act_same (Ok (OpenSet l)) = tt
 act_same (Ok Halt) = refl
 act_same (Err e) = λ h. refl
 
-room_firm : (n : ℕ) (r : Bool) (a : Result Act Fault) (o : ℕ) (y : Result Act Fault) → FirmAct a y → FirmAct (cond r a (wrong n cause.Excess o)) y
+room_firm : (n : ℕ) (r : Bool) (a : Result Act Fault) (o : ℕ) (y : Result Act Fault) → FirmAct a y →
+    FirmAct (cond r a (wrong n cause.Excess o)) y
 room_firm n r a o y h =
     cond_both r a (wrong n cause.Excess o) (λ v. FirmAct v y) (λ e. h) (λ e k. absurd (k refl))
 
-unless_firm : (n : ℕ) (l : Last) (a b : Result Act Fault) → FirmAct a b → FirmAct (unless_held n l a) (unless_held n l b)
+unless_firm : (n : ℕ) (l : Last) (a b : Result Act Fault) → FirmAct a b →
+    FirmAct (unless_held n l a) (unless_held n l b)
 unless_firm n last.Nothing a b h = h
 unless_firm n last.Mark a b h = h
 unless_firm n last.Position a b h = h
@@ -88,7 +90,8 @@ module _ (L M : Limits) where
   acts_firm : (f : Frame) (n : ℕ) (p : Progress) (s : Sign) (o : ℕ) →
       FirmAct (acts L f n p s o) (acts M f n p s o)
   acts_firm f n p (sign.Keys k) o = if_firm p.last _ _ _ (room_firm f.number (has_room L f n) _ o _ tt)
-  acts_firm f n p (sign.Timer m) o = unless_firm f.number p.last _ _ (room_firm f.number (in_number_lem L f) _ o _ tt)
+  acts_firm f n p (sign.Timer m) o =
+      unless_firm f.number p.last _ _ (room_firm f.number (in_number_lem L f) _ o _ tt)
   acts_firm f n p (sign.Field i) o = λ h. refl
   acts_firm f n p sign.Hold o = unless_firm f.number p.last _ _ (room_firm f.number (has_room L f n) _ o _ tt)
   acts_firm f n p sign.SetOpen o = if_firm p.last _ _ _ (room_firm f.number (has_room L f n) _ o _ tt)

@@ -22,7 +22,8 @@ set_turn Start m b = at_member m b None
 set_turn Member m b = at_member m b (Some (Done m))
 set_turn (Digit d) m b = cond (b == 45) (Some (On (From d) m))
     (at_member (bit_or m (2 ^ d)) b (Some (Done (bit_or m (2 ^ d)))))
-set_turn (From d) m b = cond (digit b && nat_le d (b - 48)) (Some (On Member (bit_or m (span d (b - 48))))) None
+set_turn (From d) m b =
+    cond (digit b && nat_le d (b - 48)) (Some (On Member (bit_or m (span d (b - 48))))) None
 
 -- a digit that waits is one
 abbrev pub Sound : Place → Type 0

@@ -76,8 +76,8 @@ impl Reader<'_> {
         requires positions { count_positions (drafted draft.old) ≤ 255 }
         requires ends { (count_ends (drafted draft.old) + 1 ≡ frame.number) × (frame.number ≤ 65) }
         ensures same { SamePart self.old self.new }
-        ensures reads { AlternativeRead self.old.text.now self.old.base self.old.cursor frame draft.old draft.new
-            (placed result self.new.cursor) }
+        ensures reads { AlternativeRead self.old.text.now self.old.base self.old.cursor frame draft.old
+            draft.new (placed result self.new.cursor) }
         ensures room { count_positions (drafted draft.new) ≤ 255 }
     {
         let mut progress = Progress::fresh();

@@ -76,7 +76,8 @@ impl Progress {
         }
     }
 
-    // Where alternative `number` may end, if `here`; with `judged`, one that needs no key is at fault as such.
+    // Where alternative `number` may end, if `here`; with `judged`, one that needs no key is at fault as
+    // such.
     pub(crate) fn halt(self, number: u8, at: usize, here: bool, judged: bool) -> Result<Act, Fault>
         ensures { result ≡ at_halt number self at here judged self.last }
     {
