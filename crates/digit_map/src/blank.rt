@@ -44,7 +44,7 @@ fn first_solid(text: &[u8]) -> Option<u8>
 fn joint_next(text: &[u8]) -> bool
     ensures { result ≡ joint_ahead text.now }
 {
-    first_solid(text).is_some_and(|byte| is_joint(byte))
+    first_solid(text).is_some_and(is_joint)
 }
 
 // Whether a colon is.
