@@ -1,3 +1,4 @@
+pub mod Parts
 pub mod Lines
 pub mod Writes
 pub mod Escapes

@@ -1,32 +1,24 @@
 //! The lines of an input.
-ghost use Rattle.std.specs.Prelude.{◌≡◌, ℕ, ◌<◌, ◌≤◌, [], length, MatchOption, ◌≢◌, slice_index};
+ghost use Rattle.std.specs.Prelude.{◌≡◌, [], length, MatchOption};
 ghost use Rattle.map_report.specs.Lines.{Splits};
+ghost use Rattle.map_report.specs.Parts.{Clear, Parts};
 
-// Where the first line of an input ends: at its first line feed, or at the input's end.
-fn line_end(input: &[u8]) -> usize
-    ensures within { result ≤ length input.now }
-    ensures before { (k : ℕ) → k < result → slice_index input.now k ≢ 10 }
-    ensures found { result < length input.now → slice_index input.now result ≡ 10 }
+// What stands before the first such byte of a text and what stands behind it, or none where it does not occur.
+pub fn split_once(text: &[u8], byte: u8) -> Option<(&[u8], &[u8])>
+    ensures { MatchOption result (Clear byte text.now (length text.now))
+        (λ x. Parts byte text.now x.0.now x.1.now) }
 {
-    for (at, byte) in input.iter().enumerate() {
-        if *byte == b'\n' {
-            return at;
-        }
-    }
-    input.len()
+    let at = text.iter().position(|found| *found == byte)?;
+    Some((&text[..at], &text[at + 1..]))
 }
 
 // The first line of an input and what stands behind its line feed, or none of an empty input.
+#[tactic(auto, using(crate::proofs::Lines::splits_parts, crate::proofs::Lines::splits_whole))]
 pub fn first_line(input: &[u8]) -> Option<(&[u8], &[u8])>
     ensures { MatchOption result (input.now ≡ []) (λ x. Splits input.now x.0.now x.1.now) }
 {
     if input.is_empty() {
         return None;
     }
-    let end = line_end(input);
-    if end < input.len() {
-        Some((&input[0..end], &input[end + 1..]))
-    } else {
-        Some((input, &[]))
-    }
+    split_once(input, b'\n').or(Some((input, &[])))
 }
