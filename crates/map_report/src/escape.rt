@@ -1,31 +1,8 @@
 //! Texts written so that a person can read them.
-ghost use Rattle.std.specs.Prelude.{◌≡◌, ◌<◌, replicate};
 ghost use Rattle.map_report.specs.Writes.{Adds};
-ghost use Rattle.map_report.specs.Escapes.{hex, numbered, escape, shown, excerpt, caret};
+ghost use Rattle.map_report.specs.Escapes.{escape, shown, excerpt, caret};
 
 use std::alloc::{AllocError, Global};
-
-// The digit of a number below 16.
-fn hex_digit(value: u8) -> char
-    requires { value < 16 }
-    ensures value { result ≡ hex value }
-    ensures bound { result < 128 }
-{
-    if value < 10 {
-        char::from(b'0' + value)
-    } else {
-        char::from(b'A' + (value - 10))
-    }
-}
-
-// Writes a byte by its number.
-fn write_number(out: &mut String, byte: u8) -> Result<(), AllocError>
-    ensures { Adds out.old result (numbered byte) out.new }
-{
-    out.push_str("\\x")?;
-    out.push(hex_digit(byte / 16))?;
-    out.push(hex_digit(byte % 16))
-}
 
 // Writes a byte so that a person can read it. Where memory lacks, nothing is said of what was written.
 pub fn write_byte(out: &mut String, byte: u8) -> Result<(), AllocError>
@@ -36,7 +13,7 @@ pub fn write_byte(out: &mut String, byte: u8) -> Result<(), AllocError>
         b'\r' => out.push_str("\\r"),
         b'\\' => out.push_str("\\\\"),
         b' '..=b'~' => out.push(char::from(byte)),
-        _ => write_number(out, byte),
+        _ => write!(out, "\\x{byte:02X}"),
     }
 }
 
@@ -51,6 +28,7 @@ pub fn write_text(out: &mut String, text: &[u8]) -> Result<(), AllocError>
 }
 
 // Writes a text. One that is longer than a map can be is cut behind its first 64 bytes.
+#[tactic(auto, unfolding(crate::specs::Escapes::excerpt))]
 pub fn write_excerpt(out: &mut String, text: &[u8]) -> Result<(), AllocError>
     ensures { Adds out.old result (excerpt text.now) out.new }
 {
@@ -61,22 +39,12 @@ pub fn write_excerpt(out: &mut String, text: &[u8]) -> Result<(), AllocError>
     out.push_str(" ...")
 }
 
-// Writes `count` spaces.
-fn write_spaces(out: &mut String, count: usize) -> Result<(), AllocError>
-    ensures { Adds out.old result (replicate count 32) out.new }
-{
-    for _ in 0..count {
-        out.push(' ')?;
-    }
-    Ok(())
-}
-
 // Writes a caret that stands below the first byte behind `before`, however wide that is shown.
 pub fn write_caret(heap: Global, out: &mut String, before: &[u8]) -> Result<(), AllocError>
     ensures { Adds out.old result (caret before.now) out.new }
 {
     let mut margin = String::new(heap);
     write_text(&mut margin, before)?;
-    write_spaces(out, margin.len())?;
-    out.push('^')
+    let width = margin.len();
+    write!(out, "{:width$}^", "")
 }

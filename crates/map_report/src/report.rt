@@ -16,11 +16,7 @@ use std::alloc::{AllocError, Global};
 fn front(text: &[u8], count: usize) -> &[u8]
     ensures { result.now ≡ take count text.now }
 {
-    if count < text.len() {
-        &text[0..count]
-    } else {
-        text
-    }
+    text.get(..count).unwrap_or(text)
 }
 
 // Tells a fault, in a line and in words, and shows the text with a caret below the faulty byte.

@@ -1,12 +1,14 @@
 //! Causes, timers and numbers in words.
-ghost use Rattle.std.specs.Prelude.{◌≡◌, IfOk, string_bytes};
-ghost use Rattle.map_report.specs.Phrases.{phrase, ending, timing, counted, summary};
+ghost use Rattle.std.specs.Prelude.{◌≡◌, Some, IfOk, string_bytes};
+ghost use Rattle.map_report.specs.Phrases.{phrase, counted, summary};
 
 use digit_map::fault::Cause;
 use keypad::timers::Timers;
 use std::alloc::{AllocError, Global};
+use std::fmt;
 
 // What a cause says in plain words.
+#[tactic(auto, unfolding(crate::specs::Phrases::phrase))]
 pub fn cause_words(cause: Cause) -> &'static str
     ensures { result.now ≡ phrase cause }
 {
@@ -22,32 +24,22 @@ pub fn cause_words(cause: Cause) -> &'static str
     }
 }
 
-// What follows a noun that is counted.
-fn plural(count: usize) -> &'static str
-    ensures { result.now ≡ ending count }
-{
-    if count == 1 { "" } else { "s" }
-}
-
-// The timers of a map, as `T 20 S 4 L 16 Z 10`.
-fn timers_told(heap: Global, timers: Timers) -> Result<String, AllocError>
-    ensures { IfOk result (λ s. string_bytes s ≡ timing timers) }
-{
-    let Timers {
-        start,
-        short,
-        long,
-        hold,
-    } = timers;
-    format!(in heap; "T {start} S {short} L {long} Z {hold}")
-}
-
 // A number with its noun, as `1 position` and `2 positions`.
-fn count_told(heap: Global, count: usize, noun: &str) -> Result<String, AllocError>
-    ensures { IfOk result (λ s. string_bytes s ≡ counted count noun.now) }
-{
-    let end = plural(count);
-    format!(in heap; "{count} {noun}{end}")
+#[derive(Clone, Copy)]
+struct Counted<'a> {
+    count: usize,
+    noun: &'a str,
+}
+
+impl fmt::Display for Counted<'_> {
+    ghost output = { λ c. Some (counted c.count c.noun.now) };
+
+    #[tactic(auto, unfolding(crate::specs::Phrases::counted))]
+    fn fmt<W: fmt::Write>(&self, f: &mut fmt::Formatter<W>) -> fmt::Result {
+        let Counted { count, noun } = *self;
+        let ending = if count == 1 { "" } else { "s" };
+        write!(f, "{count} {noun}{ending}")
+    }
 }
 
 // The line that tells what a map has.
@@ -59,8 +51,19 @@ pub fn admitted_line(
 ) -> Result<String, AllocError>
     ensures { IfOk result (λ s. string_bytes s ≡ summary timers alternatives positions) }
 {
-    let clocks = timers_told(heap, timers)?;
-    let choices = count_told(heap, alternatives, "alternative")?;
-    let steps = count_told(heap, positions, "position")?;
-    format!(in heap; "admitted: {clocks}, {choices}, {steps}\n")
+    let Timers {
+        start,
+        short,
+        long,
+        hold,
+    } = timers;
+    let choices = Counted {
+        count: alternatives,
+        noun: "alternative",
+    };
+    let steps = Counted {
+        count: positions,
+        noun: "position",
+    };
+    format!(in heap; "admitted: T {start} S {short} L {long} Z {hold}, {choices}, {steps}\n")
 }
