@@ -1,19 +1,18 @@
 -- Symbols, answers and marks in words. Assumes nothing.
-use Rattle.std.specs.Prelude.{ℕ, ◌+◌, ◌-◌, Bool, cond, List, [], ◌∷◌, ◌++◌, length, codes, ◌==◌, nat_lt}
+use Rattle.std.specs.Prelude.{ℕ, Bool, cond, List, [], ◌∷◌, ◌++◌, length, codes, ◌==◌}
 use Rattle.keypad.specs.declared.key.Symbol.{Symbol}
-use Rattle.keypad.specs.declared.key.Symbol.TheVariants as symbol
+use Rattle.keypad.specs.Letters.{letter_of, symbol_name}
 use Rattle.keypad.specs.declared.key.Mark.{Mark}
 use Rattle.keypad.specs.declared.key.Mark.TheVariants.{Unmarked, Short, Long}
 use Rattle.plan_report.specs.declared.standing.Standing.{Standing}
 
 -- the letter of a key: 0 to 9 and A to F; a question mark for what is no key
 abbrev pub key_code : ℕ → ℕ
-key_code k = cond (nat_lt k 10) (48 + k) (cond (nat_lt k 16) (65 + (k - 10)) 63)
+key_code = letter_of
 
 -- a symbol: its key, with a Z in front if it is held long
 abbrev pub named : Symbol → List ℕ
-named (symbol.Plain k) = key_code k ∷ []
-named (symbol.Long k) = 90 ∷ key_code k ∷ []
+named = symbol_name
 
 -- a mark
 abbrev pub mark_word : Mark → List ℕ

@@ -1,7 +1,7 @@
 //! What is told of a key, and of a row of keys.
 ghost use Rattle.std.specs.Prelude.{◌≡◌, IfOk, string_bytes};
 ghost use Rattle.keypad.specs.Sets.{Same};
-ghost use Rattle.plan_report.specs.Keys.{LineTold, KeyTold};
+ghost use Rattle.plan_report.specs.Keys.{KeyTold};
 ghost use Rattle.plan_report.specs.Rows.{RowTold};
 
 use crate::asked::standing_of;
@@ -11,22 +11,6 @@ use keypad::key::Symbol;
 use keypad::plan::Plan;
 use std::alloc::{AllocError, Global};
 
-// The line of a key that was answered so, from how the plan stands now.
-fn line_behind<P: Plan>(
-    heap: Global,
-    plan: &P,
-    symbol: Symbol,
-    opens: bool,
-    taken: bool,
-) -> Result<String, AllocError>
-    ensures { IfOk result (λ s. LineTold (P.Plan.rest plan.now) symbol opens taken
-        (string_bytes s)) }
-{
-    let standing = standing_of(plan);
-    let names = open_names(heap, plan)?;
-    key_told(heap, symbol, opens, taken, standing, names.as_str())
-}
-
 // Asks whether a symbol is open, presses it, and tells what came of it and how the plan stands behind it.
 pub fn tell_key<P: Plan>(heap: Global, plan: &mut P, symbol: Symbol) -> Result<String, AllocError>
     ensures whole { Same (P.Plan.whole plan.new) (P.Plan.whole plan.old) }
@@ -35,7 +19,9 @@ pub fn tell_key<P: Plan>(heap: Global, plan: &mut P, symbol: Symbol) -> Result<S
 {
     let opens = plan.open(symbol);
     let taken = plan.press(symbol);
-    line_behind(heap, plan, symbol, opens, taken)
+    let standing = standing_of(plan);
+    let names = open_names(heap, plan)?;
+    key_told(heap, symbol, opens, taken, standing, names.as_str())
 }
 
 // Rewinds a plan, and tells each key of a row in order.
