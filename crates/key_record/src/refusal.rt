@@ -6,35 +6,23 @@ ghost use Rattle.key_record.specs.Refusals.{refusal_number};
 // timer runs, or another one; it is claimed when not done; a receipt is not the line's; memory is too short.
 #[derive(Clone, Copy, PartialEq, Eq, Debug)]
 pub enum Refusal {
-    NotIdle,
-    Setting,
-    Reports,
-    Key,
-    Ahead,
-    Dial,
-    NoTimer,
-    OtherTimer,
-    NotDone,
-    Receipt,
-    Memory,
+    NotIdle = 20,
+    Setting = 21,
+    Reports = 22,
+    Key = 30,
+    Ahead = 31,
+    Dial = 32,
+    NoTimer = 40,
+    OtherTimer = 41,
+    NotDone = 50,
+    Receipt = 51,
+    Memory = 52,
 }
 
 impl Refusal {
     pub fn number(self) -> u8
         ensures { result ≡ refusal_number self }
     {
-        match self {
-            Refusal::NotIdle => 20,
-            Refusal::Setting => 21,
-            Refusal::Reports => 22,
-            Refusal::Key => 30,
-            Refusal::Ahead => 31,
-            Refusal::Dial => 32,
-            Refusal::NoTimer => 40,
-            Refusal::OtherTimer => 41,
-            Refusal::NotDone => 50,
-            Refusal::Receipt => 51,
-            Refusal::Memory => 52,
-        }
+        self as u8
     }
 }

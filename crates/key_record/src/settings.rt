@@ -46,5 +46,5 @@ impl Settings {
 fn counts(number: u8) -> bool
     ensures { elim result [ true ↦ (1 ≤ number) × (number ≤ 99) | false ↦ (1 ≤ number → number ≤ 99 → ⊥) ] }
 {
-    1 <= number && number <= 99
+    (1..=99).contains(&number)
 }
