@@ -17,10 +17,8 @@ pub fn chosen<P: Plan>(plan: &P, long: bool, key: u8) -> Option<Symbol>
 {
     if long && plan.open(Symbol::Long(key)) {
         Some(Symbol::Long(key))
-    } else if plan.open(Symbol::Plain(key)) {
-        Some(Symbol::Plain(key))
     } else {
-        None
+        plan.open(Symbol::Plain(key)).then_some(Symbol::Plain(key))
     }
 }
 
@@ -32,27 +30,17 @@ pub fn press_key<P: Plan>(plan: &mut P, long: bool, key: u8) -> Option<Symbol>
     ensures rest { Same (P.Plan.rest plan.new)
         (Remains (P.Plan.rest plan.old) (option_to_list result)) }
 {
-    if long {
-        if plan.press(Symbol::Long(key)) {
-            return Some(Symbol::Long(key));
-        }
+    if long && plan.press(Symbol::Long(key)) {
+        return Some(Symbol::Long(key));
     }
-    if plan.press(Symbol::Plain(key)) {
-        return Some(Symbol::Plain(key));
-    }
-    None
+    plan.press(Symbol::Plain(key)).then_some(Symbol::Plain(key))
 }
 
 // Whether some long symbol is open.
 fn some_long<P: Plan>(plan: &P) -> bool
     ensures { Tells (AnyLong (P.Plan.rest plan.now)) result }
 {
-    for key in 0..16u8 {
-        if plan.open(Symbol::Long(key)) {
-            return true;
-        }
-    }
-    false
+    (0..16u8).any(|key| plan.open(Symbol::Long(key)))
 }
 
 // A key that fits nowhere, as it is reported.
@@ -71,20 +59,8 @@ pub fn judged<P: Plan>(plan: &P, procedure: Procedure) -> Option<Method>
     ensures { Judged procedure (P.Plan.rest plan.now) result }
 {
     match procedure {
-        Procedure::Base => {
-            if plan.satisfied() && !plan.goes_on() {
-                Some(Method::Unambiguous)
-            } else {
-                None
-            }
-        }
-        Procedure::Shortest => {
-            if plan.settled() {
-                Some(Method::Full)
-            } else {
-                None
-            }
-        }
+        Procedure::Base => (plan.satisfied() && !plan.goes_on()).then_some(Method::Unambiguous),
+        Procedure::Shortest => plan.settled().then_some(Method::Full),
     }
 }
 
@@ -114,20 +90,12 @@ pub fn awaited<P: Plan>(plan: &P, timers: Timers, first: bool) -> Option<(Timer,
     ensures { Awaits timers (P.Plan.rest plan.now) first result }
 {
     if first {
-        if timers.start == 0 {
-            return None;
-        }
-        return Some((Timer::Start, timers.start));
+        return (timers.start != 0).then_some((Timer::Start, timers.start));
     }
-    match plan.timing() {
-        Mark::Long => Some((Timer::Long, timers.long)),
-        Mark::Short => Some((Timer::Short, timers.short)),
-        Mark::Unmarked => {
-            if plan.satisfied() {
-                Some((Timer::Short, timers.short))
-            } else {
-                Some((Timer::Long, timers.long))
-            }
-        }
-    }
+    Some(match plan.timing() {
+        Mark::Long => (Timer::Long, timers.long),
+        Mark::Short => (Timer::Short, timers.short),
+        Mark::Unmarked if plan.satisfied() => (Timer::Short, timers.short),
+        Mark::Unmarked => (Timer::Long, timers.long),
+    })
 }

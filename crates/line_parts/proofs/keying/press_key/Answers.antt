@@ -1,55 +1,40 @@
--- A press that was refused left the same entries, on which the next one goes on. Assumes nothing.
-use Rattle.std.proofs.Common.{◌≡◌, ℕ, Bool, true, false, Some, sym, refl, ◌∙◌, subst}
+-- A long press that was refused left the same entries, on which the plain one goes on. Assumes nothing.
+use Rattle.std.proofs.Common.{◌≡◌, ℕ, Bool, true, false, sym, refl, ◌∙◌}
 use mathlib.Core.Logic.{∥∥₁_map}
 use Rattle.std.proofs.lemmas.Bool.{false≢true}
-use Rattle.keypad.specs.declared.key.Symbol.{Symbol}
+use Rattle.std.specs.Bool.{then_some}
 use Rattle.keypad.specs.declared.key.Symbol.TheVariants.{Plain, Long}
 use Rattle.keypad.specs.Answers.{Pressed}
 use Rattle.keypad.specs.Entries.{Entries}
-use Rattle.keypad.specs.Sets.{Same, Starts, After}
-use Rattle.keypad.proofs.Sames.{same_refl, same_trans, after_same, starts_same}
+use Rattle.keypad.specs.Sets.{Same, Starts}
+use Rattle.keypad.proofs.Sames.{same_refl, starts_same, flip}
 use Rattle.key_record.specs.Keying.{Chosen}
 use Rattle.line_parts.proofs.keying.press_key.Goals as goal
-use Rattle.line_parts.proofs.keying.press_key.Goals.{then-long+else-press, else-long}
+use Rattle.line_parts.proofs.keying.press_key.Goals.{else-long-via-then-long+else-press, else-long-via-else-long}
 
-plain_chosen : (a : Entries) (l : Bool) (k : ℕ) → (l ≡ true → Starts a (Long k) → ⊥) →
-    ∥ Starts a (Plain k) ∥₁ → Chosen a l k (Some (Plain k))
-plain_chosen a true k never s = (refl, never refl, s)
-plain_chosen a false k never s = (refl, s)
+-- the plain symbol is chosen as it was pressed at b, the same entries
+plain_chosen : (a b x : Entries) (l : Bool) (k : ℕ) (p : Bool) → Same b a → (l ≡ true → Starts a (Long k) → ⊥) →
+    Pressed b (Plain k) p x → Chosen a l k (then_some p (Plain k))
+plain_chosen a b x true k true h never p = (refl, never refl, ∥∥₁_map p.0 (starts_same b a (Plain k) h))
+plain_chosen a b x true k false h never p = (never refl, λ s. p.0 (starts_same a b (Plain k) (flip b a h) s))
+plain_chosen a b x false k true h never p = (refl, ∥∥₁_map p.0 (starts_same b a (Plain k) h))
+plain_chosen a b x false k false h never p = λ s. p.0 (starts_same a b (Plain k) (flip b a h) s)
 
--- taken at the same entries
-taken_same : (a b x : Entries) (s : Symbol) → Same a b → Pressed a s true x → Pressed b s true x
-taken_same a b x s h p =
-    (∥∥₁_map p.0 (starts_same a b s h), same_trans x (After a s) (After b s) p.1 (after_same a b s h))
-
--- a plan with the entries of another
-abbrev Still : {P : Type 0} → (P → Entries) → (P → Entries) → P → P → Type 0
-Still whole rest p q = Same (whole p) (whole q) × Same (rest p) (rest q)
-
-pub returns-then-press-2 : goal.returns-then-press-2
-returns-then-press-2 g c =
-    let whole = g.P.Plan.whole in
+pub returns-clause-chosen : goal.returns-clause-chosen
+returns-clause-chosen g c =
     let rest = g.P.Plan.rest in
     let before = c.args.plan.now in
-    let middle = c.if-long.plan in
+    let middle = c.else-long.plan in
     let after = c.press-2.new.self in
     let key = c.args.key in
-    let still : Still whole rest middle before = elim c.if-long.branch [
-      | then-long+else-press w ↦
-          let r = w.if-press.ensures in
-          subst (λ p. Still whole rest p before) (sym w.plan-is) (r.whole, r.rest.1)
-      | else-long w ↦
-          let same : Still whole rest before before = (same_refl (whole before), same_refl (rest before)) in
-          subst (λ p. Still whole rest p before) (sym w.plan-is) same
+    let still : Same (rest middle) (rest before) = elim c.else-long.branch [
+      | else-long-via-then-long+else-press w ↦ rw w.plan-is w.if-press.ensures.rest.1
+      | else-long-via-else-long w ↦ rw w.plan-is (same_refl (rest before))
     ] in
-    let never : c.args.long ≡ true → Starts (rest before) (Long key) → ⊥ = λ long. elim c.if-long.branch [
-      | then-long+else-press w ↦ w.if-press.ensures.rest.0
-      | else-long w ↦ absurd (false≢true (sym w.if-long.false ∙ long))
+    let never : c.args.long ≡ true → Starts (rest before) (Long key) → ⊥ = λ long. elim c.else-long.branch [
+      | else-long-via-then-long+else-press w ↦ w.if-press.ensures.rest.0
+      | else-long-via-else-long w ↦ absurd (false≢true (sym w.if-long.false ∙ long))
     ] in
-    let pressed = c.if-press-2.ensures in
-    let taken = taken_same (rest middle) (rest before) (rest after) (Plain key) still.1 pressed.rest in
-    record {
-      chosen = plain_chosen (rest before) c.args.long key never taken.0;
-      whole = same_trans (whole after) (whole middle) (whole before) pressed.whole still.0;
-      rest = taken.1;
-    }
+    rw c.then_some.ensures
+    (plain_chosen (rest before) (rest middle) (rest after) c.args.long key c.press-2.result still never
+    c.press-2.ensures.rest)
