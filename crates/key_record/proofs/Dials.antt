@@ -1,5 +1,5 @@
 -- The characters of a dial string. Assumes nothing.
-use Rattle.std.proofs.Common.{◌≡◌, ◌+◌, ◌≤◌, List, [], ◌∷◌, ◌++◌, arith}
+use Rattle.std.proofs.Common.{◌≡◌, ◌+◌, ◌≤◌, List, [], ◌∷◌, ◌++◌, length, arith}
 use Rattle.keypad.specs.declared.key.Symbol.{Symbol}
 use Rattle.keypad.specs.declared.key.Symbol.TheVariants.{Plain, Long}
 use Rattle.key_record.specs.Dials.{width, chars}
@@ -14,3 +14,11 @@ chars-++ (y ∷ d) e = let h = chars-++ d e in omega arith
 
 pub chars_push : (d : List Symbol) (y : Symbol) → chars (d ++ y ∷ []) ≡ chars d + width y
 chars_push d y = let h = chars-++ d (y ∷ []) in omega arith
+
+-- each symbol has a character at least
+pub length_chars : (d : List Symbol) → length d ≤ chars d
+length_chars [] = omega arith
+length_chars (y ∷ d) =
+    let w = width_bounds y in
+    let h = length_chars d in
+    omega arith

@@ -1,9 +1,10 @@
 -- The bytes of a text, and a text laid into memory. Assumes nothing.
 use Rattle.std.specs.Prelude.{◌≡◌, ℕ, ◌<◌, ◌≤◌, Bool, true, false, List, ◌++◌, length, take, drop}
+use Rattle.keypad.specs.Rows.{listed}
 use Rattle.line_parts.specs.declared.text.Text.{Text}
 
 abbrev pub text_of : Text → List ℕ
-text_of t = take t.len t.bytes
+text_of t = listed t.bytes
 
 -- the first 85 bytes
 abbrev pub cut : List ℕ → List ℕ

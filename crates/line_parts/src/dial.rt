@@ -1,18 +1,18 @@
-ghost use Rattle.std.specs.Prelude.{◌≡◌, ◌≤◌, length, take};
+ghost use Rattle.std.specs.Prelude.{◌≡◌, ◌≤◌};
 ghost use Rattle.key_record.specs.Dials.{chars};
+ghost use Rattle.keypad.specs.Rows.{listed};
 
 use keypad::key::Symbol;
+use keypad::row::Row;
 
 pub mod pressed;
 
-// The symbols pressed since an arming: at most 64 characters, of which a long symbol has two.
+// The symbols pressed since an arming, and the characters that they have: at most 64, of which a long symbol
+// has two.
 #[derive(Clone, Copy)]
 pub struct Dial {
-    symbols: [Symbol; 64],
-    count: usize,
+    symbols: Row<Symbol, 64>,
     width: usize,
-    ghost full: { length symbols ≡ 64 },
-    ghost counted: { width ≡ chars (take count symbols) },
-    ghost within: { count ≤ width },
+    ghost counted: { width ≡ chars (listed symbols) },
     ghost short: { width ≤ 64 },
 }

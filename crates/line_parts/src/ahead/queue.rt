@@ -3,6 +3,7 @@ ghost use Rattle.line_parts.specs.Queued.{queued};
 
 use crate::ahead::Ahead;
 use keypad::key::KeyEvent;
+use keypad::row::Row;
 
 impl Ahead {
     // No key ahead.
@@ -10,8 +11,7 @@ impl Ahead {
         ensures { queued result ≡ [] }
     {
         Ahead {
-            events: [KeyEvent { key: 0, tenths: 0 }; 32],
-            count: 0,
+            events: Row::of(KeyEvent { key: 0, tenths: 0 }),
         }
     }
 
@@ -19,7 +19,7 @@ impl Ahead {
         ensures value { result ≡ length (queued self.now) }
         ensures bound { result ≤ 32 }
     {
-        self.count
+        self.events.len()
     }
 
     // One key more at the end; one that finds no place is left out.
@@ -27,10 +27,7 @@ impl Ahead {
         ensures { queued self.new ≡ cond (nat_lt (length (queued self.old)) 32)
             (queued self.old ++ event ∷ []) (queued self.old) }
     {
-        if self.count < 32 {
-            self.events[self.count] = event;
-            self.count += 1;
-        }
+        self.events.push(event);
     }
 
     // The key with so many before it.
@@ -39,25 +36,19 @@ impl Ahead {
             (λ k. drop index (queued self.now) ≡
             k ∷ drop (index + 1) (queued self.now)) }
     {
-        if index < self.count {
-            Some(self.events[index])
-        } else {
-            None
-        }
+        self.events.get(index)
     }
 
     pub fn events(&self) -> &[KeyEvent]
         ensures { result.now ≡ queued self.now }
     {
-        &self.events[0..self.count]
+        self.events.as_slice()
     }
 
     // Takes so many keys off the front.
     pub fn discard(&mut self, most: usize)
         ensures { queued self.new ≡ drop most (queued self.old) }
     {
-        let off = most.min(self.count);
-        self.events.rotate_left(off);
-        self.count -= off;
+        self.events.discard_front(most);
     }
 }

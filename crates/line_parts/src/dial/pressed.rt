@@ -4,6 +4,7 @@ ghost use Rattle.line_parts.specs.Dialled.{dialled};
 
 use crate::dial::Dial;
 use keypad::key::Symbol;
+use keypad::row::Row;
 
 // How many characters a symbol has.
 fn symbol_width(symbol: Symbol) -> usize
@@ -21,8 +22,7 @@ impl Dial {
         ensures { dialled result ≡ [] }
     {
         Dial {
-            symbols: [Symbol::Plain(0); 64],
-            count: 0,
+            symbols: Row::of(Symbol::Plain(0)),
             width: 0,
         }
     }
@@ -41,8 +41,7 @@ impl Dial {
             (dialled self.old ++ symbol ∷ []) (dialled self.old) }
     {
         if self.takes(symbol) {
-            self.symbols[self.count] = symbol;
-            self.count += 1;
+            self.symbols.push(symbol);
             self.width += symbol_width(symbol);
         }
     }
@@ -51,12 +50,12 @@ impl Dial {
     pub fn is_fresh(&self) -> bool
         ensures { result ≡ fresh (dialled self.now) }
     {
-        self.count == 0
+        self.symbols.len() == 0
     }
 
     pub fn symbols(&self) -> &[Symbol]
         ensures { result.now ≡ dialled self.now }
     {
-        &self.symbols[0..self.count]
+        self.symbols.as_slice()
     }
 }

@@ -1,19 +1,18 @@
--- The key with so many before it. Assumes nothing.
-use Rattle.std.proofs.Common.{◌+◌, ◌∷◌, drop, ap, ◌∙◌, arith}
-use Rattle.std.proofs.lemmas.List.{drop_more, drop_all, get_or-take, length-take-le}
+-- The key with so many before it stands at the front of what is left without those. Assumes nothing.
+use Rattle.std.proofs.Common.{◌≡◌, ℕ, ◌+◌, List, [], ◌∷◌, drop, inl, inr, ap, ◌∙◌}
+use Rattle.std.proofs.lemmas.List.{drop_more, drop_all}
+use Rattle.std.proofs.lemmas.Option.{slice_get_cases}
+use Rattle.std.specs.List.{slice_get}
+use Rattle.std.specs.Option.{MatchOption}
 use Rattle.line_parts.specs.Queued.{queued}
 use Rattle.line_parts.proofs.ahead.Ahead.at.Goals as goal
 
-pub returns-then-index-self : goal.returns-then-index-self
-returns-then-index-self c =
-    let q = c.args.self.now in
-    let i = c.args.index in
-    let n = length-take-le q.count q.events (omega arith) in
-    let here = get_or-take q.count q.events i _ c.if-index-self.true in
-    drop_more (queued q) i _ (omega arith) ∙ ap (λ k. k ∷ drop (i + 1) (queued q)) here
+front : {A : Type 0} (xs : List A) (i : ℕ) →
+    MatchOption (slice_get xs i) (drop i xs ≡ []) (λ x. drop i xs ≡ x ∷ drop (i + 1) xs)
+front xs i = elim (slice_get_cases xs i).1 [
+  | inl x ↦ rw x.2 (drop_more xs i x.0 x.1 ∙ ap (λ y. y ∷ drop (i + 1) xs) x.3)
+  | inr x ↦ rw x.1 (drop_all i xs x.0)
+]
 
-pub returns-else-index-self : goal.returns-else-index-self
-returns-else-index-self c =
-    let q = c.args.self.now in
-    let n = length-take-le q.count q.events (omega arith) in
-    drop_all c.args.index (queued q) (omega arith)
+pub returns : goal.returns
+returns c = rw c.get.ensures (front (queued c.args.self.now) c.args.index)
