@@ -1,7 +1,8 @@
 -- The report line. Assumes nothing.
-use Rattle.std.specs.Prelude.{ℕ, ◌+◌, cond, List, [], ◌∷◌, ◌++◌, codes, nat_lt}
+use Rattle.std.specs.Prelude.{ℕ, List, [], ◌∷◌, ◌++◌, codes}
 use Rattle.keypad.specs.declared.key.Symbol.{Symbol}
 use Rattle.keypad.specs.declared.key.Symbol.TheVariants.{Plain, Long}
+use Rattle.keypad.specs.Letters.{letter_of}
 use Rattle.key_record.specs.declared.ending.Ending.{Ending}
 use Rattle.key_record.specs.declared.ending.Method.{Method}
 use Rattle.key_record.specs.declared.ending.Method.TheVariants.{Unambiguous, Full, Partial}
@@ -10,9 +11,9 @@ use Rattle.key_record.specs.declared.ending.Trigger.TheVariants.{Press, Extra, E
 use Rattle.key_record.specs.declared.timer.Timer.{Timer}
 use Rattle.key_record.specs.declared.timer.Timer.TheVariants as timer
 
--- the letter of a key: 0 to 9 and A to F; a question mark for what is no key
+-- the letter of a key
 abbrev pub key_letter_lem : ℕ → ℕ
-key_letter_lem k = cond (nat_lt k 10) (48 + k) (cond (nat_lt k 16) (55 + k) 63)
+key_letter_lem = letter_of
 
 -- a symbol: its key, with a Z in front if it is long
 abbrev pub symbol_text : Symbol → List ℕ

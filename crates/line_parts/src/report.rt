@@ -1,6 +1,6 @@
 //! The report line.
 ghost use Rattle.std.specs.Prelude.{◌≡◌, [], ◌∷◌, ◌++◌};
-ghost use Rattle.key_record.specs.Letters.{key_letter_lem, symbol_text, dial_text, timer_letter_lem};
+ghost use Rattle.key_record.specs.Letters.{symbol_text, dial_text, timer_letter_lem};
 ghost use Rattle.key_record.specs.Letters.{expiry_text, method_text, extra_text, report_line};
 ghost use Rattle.line_parts.specs.Dialled.{dialled};
 ghost use Rattle.line_parts.specs.Texts.{text_of, cut};
@@ -10,25 +10,13 @@ use crate::text::Text;
 use key_record::ending::{Ending, Method, Trigger};
 use key_record::timer::Timer;
 use keypad::key::Symbol;
+pub use keypad::letter::key_letter;
 
 // What a line reported: its dial string and how it ended.
 #[derive(Clone, Copy)]
 pub struct Report {
     pub dial: Dial,
     pub ending: Ending,
-}
-
-// The letter of a key, or a question mark for a number that is no key's.
-pub fn key_letter(key: u8) -> u8
-    ensures { result ≡ key_letter_lem key }
-{
-    if key < 10 {
-        b'0' + key
-    } else if key < 16 {
-        b'A' - 10 + key
-    } else {
-        b'?'
-    }
 }
 
 // The letter of a timer.
