@@ -1,10 +1,11 @@
 -- The keys ahead are fed to an entry, one after another. Assumes nothing.
 use Rattle.std.proofs.Common.{◌≡◌, ℕ, ◌+◌, ◌<◌, ◌≤◌, List, [], ◌∷◌, ◌++◌, length, take, drop, None, refl, ap, ◌∙◌, subst, arith}
-use Rattle.std.proofs.lemmas.List.{length-drop, length-take-le, take-append-drop, take_more, drop_more}
+use Rattle.std.proofs.lemmas.List.{length-drop, take-append-drop, take_more, drop_more}
 use Rattle.keypad.specs.declared.key.KeyEvent.{KeyEvent}
 use Rattle.keypad.specs.declared.key.Symbol.{Symbol}
 use Rattle.keypad.specs.Entries.{Entries}
 use Rattle.keypad.specs.Sets.{Same, Remains}
+use Rattle.keypad.proofs.Rows.{listed_within}
 use Rattle.keypad.proofs.Sames.{same_refl, same_trans, remains_same, remains-++}
 use Rattle.key_record.specs.Dials.{chars}
 use Rattle.key_record.specs.Rules.{Fits}
@@ -41,7 +42,7 @@ pub ahead_within : (a : Ahead) (n : ℕ) (k : KeyEvent) → drop n (queued a) �
 ahead_within a n k h =
     let e = ap length h in
     let d = length-drop n (queued a) in
-    let t = length-take-le a.count a.events (omega arith) in
+    let t = listed_within a.events in
     (omega arith, omega arith)
 
 -- of the keys ahead of the line l so many have been fed to its entry, which is still open; m is the line now
