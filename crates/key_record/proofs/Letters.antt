@@ -1,6 +1,6 @@
--- How a report line is joined and how long it is. Assumes nothing.
-use Rattle.std.proofs.Common.{◌≡◌, ◌+◌, ◌≤◌, List, [], ◌∷◌, ◌++◌, length, sym, refl, ap, ◌∙◌, arith}
-use Rattle.std.proofs.lemmas.List.{append_assoc, append-nil, length-append}
+-- How long a report line is. Assumes nothing.
+use Rattle.std.proofs.Common.{◌≡◌, ◌+◌, ◌≤◌, List, [], ◌∷◌, length, refl, ◌∙◌, arith}
+use Rattle.std.proofs.lemmas.List.{length-append}
 use Rattle.keypad.specs.declared.key.Symbol.{Symbol}
 use Rattle.keypad.specs.declared.key.Symbol.TheVariants.{Plain, Long}
 use Rattle.key_record.specs.declared.ending.Ending.{Ending}
@@ -12,12 +12,6 @@ use Rattle.key_record.specs.Dials.{width, chars}
 use Rattle.key_record.specs.Letters.{symbol_text, dial_text, expiry_text, method_text, extra_text}
 use Rattle.key_record.specs.Letters.{report_line}
 use Rattle.key_record.proofs.Dials.{width_bounds}
-
-pub dial_text_push : (d : List Symbol) (y : Symbol) → dial_text (d ++ y ∷ []) ≡ dial_text d ++ symbol_text y
-dial_text_push [] y = append-nil (symbol_text y)
-dial_text_push (x ∷ d) y =
-    ap (λ l. symbol_text x ++ l) (dial_text_push d y)
-    ∙ sym (append_assoc (symbol_text x) (dial_text d) (symbol_text y))
 
 pub symbol_length : (y : Symbol) → length (symbol_text y) ≡ width y
 symbol_length (Plain k) = refl

@@ -1,5 +1,6 @@
 -- The report line. Assumes nothing.
 use Rattle.std.specs.Prelude.{ℕ, List, [], ◌∷◌, ◌++◌, codes}
+use Rattle.std.specs.List.{flat_map}
 use Rattle.keypad.specs.declared.key.Symbol.{Symbol}
 use Rattle.keypad.specs.declared.key.Symbol.TheVariants.{Plain, Long}
 use Rattle.keypad.specs.Letters.{letter_of}
@@ -21,8 +22,7 @@ symbol_text (Plain k) = key_letter_lem k ∷ []
 symbol_text (Long k) = 90 ∷ key_letter_lem k ∷ []
 
 abbrev pub dial_text : List Symbol → List ℕ
-dial_text [] = []
-dial_text (y ∷ d) = symbol_text y ++ dial_text d
+dial_text = flat_map symbol_text
 
 -- T, S or L
 abbrev pub timer_letter_lem : Timer → ℕ

@@ -1,9 +1,8 @@
 -- One symbol after the other. Assumes nothing.
 use Rattle.std.proofs.Common.{◌++◌, get_or, take, sym, ap, ◌∙◌}
-use Rattle.std.proofs.lemmas.List.{take_more, take_all}
+use Rattle.std.proofs.lemmas.List.{append_assoc, flat_map_more, take_more}
 use Rattle.keypad.specs.declared.key.Symbol.TheVariants.{Plain}
 use Rattle.key_record.specs.Letters.{symbol_text, dial_text}
-use Rattle.key_record.proofs.Letters.{dial_text_push}
 use Rattle.line_parts.specs.Texts.{text_of, cut}
 use Rattle.line_parts.proofs.Texts.{added_nil, added-++}
 use Rattle.line_parts.proofs.report.add_dial.Goals as goal
@@ -17,13 +16,6 @@ loop-symbol-preserved c =
     let d = c.symbols-symbol-items.result.now in
     let i = c.loop-symbol.symbol-index in
     let y = get_or d i (Plain 0) in
-    let next = take_more d i (Plain 0) c.loop-symbol-test.true in
-    let more = ap dial_text next ∙ dial_text_push (take i d) y in
     added-++ t (dial_text (take i d)) (symbol_text y) c.loop-symbol.invariant c.add_symbol.ensures
-    ∙ ap (λ l. cut (t ++ l)) (sym more)
-
-pub returns : goal.returns
-returns c =
-    let t = text_of c.args.text.now in
-    let all = take_all c.loop-symbol.symbol-index _ c.loop-symbol-test.false in
-    c.loop-symbol.invariant ∙ ap (λ d. cut (t ++ dial_text d)) (all ∙ c.symbols-symbol-items.ensures)
+    ∙ ap cut (sym (append_assoc t (dial_text (take i d)) (symbol_text y)) ∙ flat_map_more symbol_text t (take i d) y)
+    ∙ ap (λ d. cut (t ++ dial_text d)) (sym (take_more d i (Plain 0) c.loop-symbol-test.true))
