@@ -1,9 +1,10 @@
 -- Which keys of a call are accepted, by its effect. Assumes nothing.
-use Rattle.std.proofs.Common.{◌≡◌, List, [], Some, None, inl, inr}
+use Rattle.std.proofs.Common.{◌≡◌, List, [], Some, None, inl, inr, Result}
 use Rattle.keypad.specs.declared.key.KeyEvent.{KeyEvent}
 use Rattle.keypad.specs.Entries.{Entries}
 use Rattle.key_record.specs.declared.answer.Answer.{Answer}
 use Rattle.key_record.specs.declared.call.Call.{Call}
+use Rattle.key_record.specs.declared.refusal.Refusal.{Refusal}
 use Rattle.key_record.specs.Turns.{still, over}
 use Rattle.key_record.specs.States.{State}
 use Rattle.key_record.specs.Effects.{Effect, refuses, queues, begins, presses, claims, settles, Replies}
@@ -19,7 +20,7 @@ accepts (presses out) ks = ks
 accepts (claims e) ks = ks
 accepts (settles l) ks = ks
 
-pub replies_accept : (a : Entries) (st : State) (f : Effect) (x : Answer) (ks : List KeyEvent)
+pub replies_accept : (a : Entries) (st : State) (f : Effect) (x : Result Answer Refusal) (ks : List KeyEvent)
     → Replies a st f x → unless_refused x ks ≡ accepts f ks
 replies_accept a st (refuses why) x ks e = rw e
 replies_accept a st (queues k) x ks e = rw e

@@ -1,5 +1,5 @@
 -- What calls do moves to the same entries. Assumes nothing.
-use Rattle.std.proofs.Common.{◌≡◌, ℕ, ◌⊎◌, List, [], ◌∷◌, ◌++◌, Some, None, refl, subst, inl, inr}
+use Rattle.std.proofs.Common.{◌≡◌, ℕ, ◌⊎◌, List, [], ◌∷◌, ◌++◌, Some, None, refl, subst, inl, inr, Result}
 use Rattle.keypad.specs.declared.key.KeyEvent.{KeyEvent}
 use Rattle.keypad.specs.declared.key.Symbol.{Symbol}
 use Rattle.keypad.specs.Entries.{Entries}
@@ -11,6 +11,7 @@ use Rattle.key_record.specs.declared.call.Call.{Call}
 use Rattle.key_record.specs.declared.call.Call.TheVariants.{Arm, Key, Expire, Claim, Book, Waive}
 use Rattle.key_record.specs.declared.ending.Method.{Method}
 use Rattle.key_record.specs.declared.ending.Phase.TheVariants.{Open}
+use Rattle.key_record.specs.declared.refusal.Refusal.{Refusal}
 use Rattle.key_record.specs.declared.settings.Settings.{Settings}
 use Rattle.key_record.specs.declared.timer.Timer.{Timer}
 use Rattle.key_record.specs.Keying.{is_long}
@@ -98,12 +99,12 @@ allows_same st w v a b h i Claim f x = x
 allows_same st w v a b h i (Book r n) f x = x
 allows_same st w v a b h i (Waive r) f x = x
 
-progresses_same : (a b : Entries) (st : State) → (st.phase ≡ Open → Same a b) → (out : Outcome) (x : Answer)
+progresses_same : (a b : Entries) (st : State) → (st.phase ≡ Open → Same a b) → (out : Outcome) (x : Result Answer Refusal)
     → Progresses a st out x → Progresses b st out x
 progresses_same a b st h (still p t) x y = (y.0, running_same st a b h y.0 y.1, y.2)
 progresses_same a b st h (over o) x y = y
 
-pub replies_same : (a b : Entries) (st : State) → (st.phase ≡ Open → Same a b) → (f : Effect) (x : Answer)
+pub replies_same : (a b : Entries) (st : State) → (st.phase ≡ Open → Same a b) → (f : Effect) (x : Result Answer Refusal)
     → Replies a st f x → Replies b st f x
 replies_same a b st h (refuses why) x y = y
 replies_same a b st h (queues k) x y = y

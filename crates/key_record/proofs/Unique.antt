@@ -1,5 +1,5 @@
 -- Over the same entries there is one record. Assumes nothing.
-use Rattle.std.proofs.Common.{◌≡◌, ℕ, ◌⊎◌, List, [], ◌∷◌, Some, None, Option, refl, inl, inr}
+use Rattle.std.proofs.Common.{◌≡◌, ℕ, ◌⊎◌, List, [], ◌∷◌, Some, None, Option, refl, inl, inr, Result}
 use Rattle.keypad.specs.declared.key.KeyEvent.{KeyEvent}
 use Rattle.keypad.specs.declared.key.Symbol.{Symbol}
 use Rattle.keypad.specs.Entries.{Entries}
@@ -67,12 +67,12 @@ pub allows_unique : (st : State) (w v a b : Entries) → Same w v → (st.phase 
     (f g : Effect) → Allows st w a c f → Allows st v b c g → f ≡ g
 allows_unique st w v a b h i c f g x y = allows_single st v b c f g (allows_same st w v a b h i c f x) y
 
-progresses_single : (a : Entries) (st : State) (out : Outcome) (x y : Answer) → Progresses a st out x
+progresses_single : (a : Entries) (st : State) (out : Outcome) (x y : Result Answer Refusal) → Progresses a st out x
     → Progresses a st out y → x ≡ y
 progresses_single a st (still p t) x y f g = let e = running_single st a f.0 g.0 f.1 g.1 in cc
 progresses_single a st (over o) x y f g = cc
 
-replies_single : (a : Entries) (st : State) (f : Effect) (x y : Answer) → Replies a st f x → Replies a st f y
+replies_single : (a : Entries) (st : State) (f : Effect) (x y : Result Answer Refusal) → Replies a st f x → Replies a st f y
     → x ≡ y
 replies_single a st (refuses why) x y i j = cc
 replies_single a st (queues k) x y i j = cc
@@ -83,12 +83,12 @@ replies_single a st (settles None) x y i j = cc
 replies_single a st (settles (Some l)) x y i j = cc
 
 pub replies_unique : (a b : Entries) (st : State) → (st.phase ≡ Open → Same a b) → (f : Effect)
-    (x y : Answer) → Replies a st f x → Replies b st f y → x ≡ y
+    (x y : Result Answer Refusal) → Replies a st f x → Replies b st f y → x ≡ y
 replies_unique a b st h f x y i j = replies_single b st f x y (replies_same a b st h f x i) j
 
 reply_alike : (x y : Reply) → x.answer ≡ y.answer → x.timer ≡ y.timer → x ≡ y
 reply_alike x y i j =
-    let whole : Answer → Option (Timer × ℕ) → Reply = λ a t. record { answer = a; timer = t } in
+    let whole : Result Answer Refusal → Option (Timer × ℕ) → Reply = λ a t. record { answer = a; timer = t } in
     let e : whole x.answer x.timer ≡ whole y.answer y.timer = cc in
     e
 

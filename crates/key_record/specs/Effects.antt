@@ -1,10 +1,10 @@
 -- What a call does to a line. Assumes nothing.
-use Rattle.std.specs.Prelude.{◌≡◌, ℕ, List, [], ◌∷◌, ◌++◌, length, Some, None, Option}
+use Rattle.std.specs.Prelude.{◌≡◌, ℕ, List, [], ◌∷◌, ◌++◌, length, Some, None, Option, Ok, Err, Result}
 use Rattle.keypad.specs.declared.key.KeyEvent.{KeyEvent}
 use Rattle.keypad.specs.declared.key.Symbol.{Symbol}
 use Rattle.keypad.specs.Entries.{Entries}
 use Rattle.key_record.specs.declared.answer.Answer.{Answer}
-use Rattle.key_record.specs.declared.answer.Answer.TheVariants.{Moved, Claimed, Booked, Waived, Refused}
+use Rattle.key_record.specs.declared.answer.Answer.TheVariants.{Moved, Claimed, Booked, Waived}
 use Rattle.key_record.specs.declared.answer.Progress.TheVariants.{Done, Wait, Ahead}
 use Rattle.key_record.specs.declared.ending.Ending.{Ending}
 use Rattle.key_record.specs.declared.ending.Phase.TheVariants as phase
@@ -54,16 +54,16 @@ pressed_of (claims e) w a = a
 pressed_of (settles l) w a = a
 
 -- an outcome's answer, at the line after it with the entries a remaining
-abbrev pub Progresses : Entries → State → Outcome → Answer → Type 0
-Progresses a st (still p t) x = (v : Option (Timer × ℕ)) × Running st a v × (x ≡ Moved (Wait v))
-Progresses a st (over o) x = x ≡ Moved Done
+abbrev pub Progresses : Entries → State → Outcome → Result Answer Refusal → Type 0
+Progresses a st (still p t) x = (v : Option (Timer × ℕ)) × Running st a v × (x ≡ Ok (Moved (Wait v)))
+Progresses a st (over o) x = x ≡ Ok (Moved Done)
 
 -- the answer, at the line after the call with the entries a remaining
-abbrev pub Replies : Entries → State → Effect → Answer → Type 0
-Replies a st (refuses why) x = x ≡ Refused why
-Replies a st (queues k) x = x ≡ Moved (Ahead (length st.ahead))
+abbrev pub Replies : Entries → State → Effect → Result Answer Refusal → Type 0
+Replies a st (refuses why) x = x ≡ Err why
+Replies a st (queues k) x = x ≡ Ok (Moved (Ahead (length st.ahead)))
 Replies a st (begins s out) x = Progresses a st out x
 Replies a st (presses out) x = Progresses a st out x
-Replies a st (claims e) x = x ≡ Claimed (record { number = st.number; count = st.count })
-Replies a st (settles None) x = x ≡ Waived
-Replies a st (settles (Some l)) x = x ≡ Booked (length l)
+Replies a st (claims e) x = x ≡ Ok (Claimed (record { number = st.number; count = st.count }))
+Replies a st (settles None) x = x ≡ Ok Waived
+Replies a st (settles (Some l)) x = x ≡ Ok (Booked (length l))

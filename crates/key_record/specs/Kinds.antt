@@ -1,11 +1,11 @@
 -- Calls by their kind. Assumes nothing.
-use Rattle.std.specs.Prelude.{List, [], ◌∷◌, ◌++◌}
+use Rattle.std.specs.Prelude.{List, [], ◌∷◌, ◌++◌, Ok, Err, Result}
 use Rattle.keypad.specs.declared.key.KeyEvent.{KeyEvent}
 use Rattle.key_record.specs.declared.answer.Answer.{Answer}
-use Rattle.key_record.specs.declared.answer.Answer.TheVariants.{Moved, Claimed, Booked, Waived, Refused}
 use Rattle.key_record.specs.declared.answer.Reply.{Reply}
 use Rattle.key_record.specs.declared.call.Call.{Call}
 use Rattle.key_record.specs.declared.call.Call.TheVariants.{Arm, Key, Expire, Claim, Book, Waive}
+use Rattle.key_record.specs.declared.refusal.Refusal.{Refusal}
 use Rattle.key_record.specs.declared.settings.Settings.{Settings}
 
 abbrev pub key_of : Call → List KeyEvent
@@ -33,12 +33,9 @@ abbrev pub armings : List Call → List Settings
 armings [] = []
 armings (c ∷ cs) = arming_of c ++ armings cs
 
-abbrev pub Unrefused : Answer → Type 0
-Unrefused (Moved p) = Unit {0}
-Unrefused (Claimed r) = Unit {0}
-Unrefused (Booked n) = Unit {0}
-Unrefused Waived = Unit {0}
-Unrefused (Refused why) = ⊥
+abbrev pub Unrefused : Result Answer Refusal → Type 0
+Unrefused (Ok x) = Unit {0}
+Unrefused (Err why) = ⊥
 
 abbrev pub Unexpired : Call → Type 0
 Unexpired (Arm s) = Unit {0}
@@ -55,12 +52,9 @@ Smooth (c ∷ cs) [] = Unit {0}
 Smooth (c ∷ cs) (x ∷ xs) = Unexpired c × Unrefused x.answer × Smooth cs xs
 
 -- what a call adds to the accepted keys
-abbrev pub unless_refused : Answer → List KeyEvent → List KeyEvent
-unless_refused (Moved p) ks = ks
-unless_refused (Claimed r) ks = ks
-unless_refused (Booked n) ks = ks
-unless_refused Waived ks = ks
-unless_refused (Refused why) ks = []
+abbrev pub unless_refused : Result Answer Refusal → List KeyEvent → List KeyEvent
+unless_refused (Ok x) ks = ks
+unless_refused (Err why) ks = []
 
 -- the keys of key calls that were not refused, in order
 abbrev pub accepted : List Call → List Reply → List KeyEvent

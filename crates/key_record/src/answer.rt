@@ -11,19 +11,18 @@ pub enum Progress {
     Ahead(usize),
 }
 
-// What a line answers to a call.
+// What a line answers to a call that it does not refuse.
 #[derive(Clone, Copy, PartialEq, Eq, Debug)]
 pub enum Answer {
     Moved(Progress),
     Claimed(Numbers),
     Booked(usize),
     Waived,
-    Refused(Refusal),
 }
 
-// The answer to a call, and the timer that runs after it.
+// The answer to a call or its refusal, and the timer that runs after it.
 #[derive(Clone, Copy, PartialEq, Eq, Debug)]
 pub struct Reply {
-    pub answer: Answer,
+    pub answer: Result<Answer, Refusal>,
     pub timer: Option<(Timer, u8)>,
 }

@@ -1,5 +1,5 @@
 -- What an arming does, once its keys ahead are fed. Assumes nothing.
-use Rattle.std.proofs.Common.{◌≡◌, ℕ, ◌+◌, ◌<◌, cond, [], ◌∷◌, ◌++◌, drop, Some, Option, sym, refl, ap, ◌∙◌, subst, inl, arith}
+use Rattle.std.proofs.Common.{◌≡◌, ℕ, ◌+◌, ◌<◌, cond, [], ◌∷◌, ◌++◌, drop, Some, Option, sym, refl, ap, ◌∙◌, subst, inl, arith, Ok, Result}
 use Rattle.keypad.specs.declared.key.KeyEvent.{KeyEvent}
 use Rattle.keypad.specs.Entries.{Entries}
 use Rattle.keypad.specs.Sets.{Same, Remains}
@@ -10,6 +10,7 @@ use Rattle.key_record.specs.declared.answer.Progress.TheVariants as progress
 use Rattle.key_record.specs.declared.call.Call.TheVariants.{Arm}
 use Rattle.key_record.specs.declared.ending.Ending.{Ending}
 use Rattle.key_record.specs.declared.ending.Phase.TheVariants.{Idle, Open}
+use Rattle.key_record.specs.declared.refusal.Refusal.{Refusal}
 use Rattle.key_record.specs.declared.timer.Timer.{Timer}
 use Rattle.key_record.specs.Bounds.{Lawful}
 use Rattle.key_record.specs.Effects.{begins, pressed_by, Progresses}
@@ -31,7 +32,7 @@ module _ {X : Type 0} (whole rest : X → Entries) (j l : Line X) (idle : j.phas
     (same_whole : Same (whole l.plan) (whole j.plan))
     (rewound : Same (rest l.plan) (whole j.plan)) where
   -- the plan of the line o, after the arming, is that of m
-  arming : (m o : Line X) (out : Outcome) (x : Answer) → o.plan ≡ m.plan
+  arming : (m o : Line X) (out : Outcome) (x : Result Answer Refusal) → o.plan ≡ m.plan
       → Fed l.settings (rest l.plan) [] [] (queued l.ahead) out
       → state_of o ≡ lands (armed (state_of j) l.settings) out
       → Progresses (rest o.plan) (state_of o) out x → Same (whole m.plan) (whole l.plan)
@@ -59,11 +60,11 @@ module _ {X : Type 0} (whole rest : X → Entries) (j l : Line X) (idle : j.phas
     pub arming_opens : (o : Line X) (v : Option (Timer × ℕ)) → drop fed (queued m.ahead) ≡ []
         → o.plan ≡ m.plan → state_of o ≡ with_phase (with_ahead (state_of m) []) Open
         → Running (state_of o) (rest o.plan) v
-        → Does whole rest j (Arm l.settings) (Moved (progress.Wait v)) o
+        → Does whole rest j (Arm l.settings) (Ok (Moved (progress.Wait v))) o
     arming_opens o v none plan state running =
         let out = still f.pressed f.taken in
         let here = f.state ∙ ap (λ st. with_dial st f.pressed) begun in
-        arming m o out (Moved (progress.Wait v)) plan (feeding_led whole rest l m fed f [] out none refl)
+        arming m o out (Ok (Moved (progress.Wait v))) plan (feeding_led whole rest l m fed f [] out none refl)
         (state ∙ ap (λ st. with_phase (with_ahead st []) Open) here) (v, running, refl) f.same
         f.remains
 
@@ -73,7 +74,7 @@ module _ {X : Type 0} (whole rest : X → Entries) (j l : Line X) (idle : j.phas
         → Processed whole rest m k (Some e) n
         → off ≡ cond (keeps n.settings.disposition e.trigger) fed (fed + 1) → o.plan ≡ n.plan
         → state_of o ≡ finished (with_ahead (state_of n) (drop off (queued n.ahead))) e
-        → Does whole rest j (Arm l.settings) (Moved progress.Done) o
+        → Does whole rest j (Arm l.settings) (Ok (Moved progress.Done)) o
     arming_ends n o k e off at p h plan state =
         let s = l.settings in
         let ys = turned_symbols p.turned in
@@ -88,7 +89,7 @@ module _ {X : Type 0} (whole rest : X → Entries) (j l : Line X) (idle : j.phas
         let still-ahead = kept_extra s.disposition (extra_at e.trigger k) ++ (ks ++ []) in
         let stays : drop off (queued n.ahead) ≡ still-ahead = cc in
         let here = fed-state ∙ ap (λ st. with_dial st (f.pressed ++ ys)) begun in
-        arming n o out (Moved progress.Done) plan (feeding_led whole rest l m fed f (k ∷ ks) out at t.1)
+        arming n o out (Ok (Moved progress.Done)) plan (feeding_led whole rest l m fed f (k ∷ ks) out at t.1)
         (state ∙ (ap (λ q. finished (with_ahead (state_of n) q) e) stays
         ∙ ap (λ st. finished (with_ahead st still-ahead) e) here)) refl (same_trans _ _ _ p.same f.same)
         (feeding_remains whole rest l m fed f (rest n.plan) ys p.remains)

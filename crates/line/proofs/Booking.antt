@@ -1,5 +1,5 @@
 -- A booking with at most 85 bytes lent. Assumes nothing.
-use Rattle.std.proofs.Common.{◌≡◌, ℕ, ◌+◌, ◌-◌, ◌≤◌, min, Bool, true, cond, List, ◌++◌, length, take, drop, Some, None, vec_items, vec_len, vec_capacity, Vec, refl, ap, ◌∙◌, subst, inl, inr, arith}
+use Rattle.std.proofs.Common.{◌≡◌, ℕ, ◌+◌, ◌-◌, ◌≤◌, min, Bool, true, cond, List, ◌++◌, length, take, drop, Some, None, vec_items, vec_len, vec_capacity, Vec, refl, ap, ◌∙◌, subst, inl, inr, arith, Ok, Result}
 use Rattle.std.proofs.lemmas.List.{append_assoc, length-append, length-take, take_all, take-append-le}
 use Rattle.std.specs.declared.alloc.Global.{Global}
 use Rattle.keypad.specs.Entries.{Entries}
@@ -7,6 +7,7 @@ use Rattle.key_record.specs.declared.answer.Answer.{Answer}
 use Rattle.key_record.specs.declared.answer.Answer.TheVariants.{Booked}
 use Rattle.key_record.specs.declared.call.Call.TheVariants.{Book}
 use Rattle.key_record.specs.declared.call.Numbers.{Numbers}
+use Rattle.key_record.specs.declared.refusal.Refusal.{Refusal}
 use Rattle.key_record.specs.Dials.{chars}
 use Rattle.key_record.specs.Effects.{Effect, refuses, queues, begins, presses, claims, settles, Replies}
 use Rattle.key_record.specs.Rules.{Allows}
@@ -34,7 +35,7 @@ Lies f n after = (n ≡ length (written f)) × (behind : List ℕ) × (after ≡
 
 -- a booking answers the length of the line that it wrote
 booked_lies : (a : Entries) (st : State) (f : Effect) (n : ℕ) (before after : List ℕ)
-    → Replies a st f (Booked n) → Writes f before after → Lies f n after
+    → Replies a st f (Ok (Booked n)) → Writes f before after → Lies f n after
 booked_lies a st (refuses why) n before after h m = clashing (cc)
 booked_lies a st (queues k) n before after h m = clashing (cc)
 booked_lies a st (begins s (still p t)) n before after h m = clashing (let e = h.2 in cc)
@@ -47,7 +48,7 @@ booked_lies a st (settles (Some l)) n before after h m = (cc, drop (length l) be
 
 -- the line lies within the memory, and is what is taken from it, whatever bytes follow
 module _ (a : Entries) (st : State) (f : Effect) (n : ℕ) (before after : List ℕ)
-    (h : Replies a st f (Booked n)) (m : Writes f before after) where
+    (h : Replies a st f (Ok (Booked n))) (m : Writes f before after) where
   pub booked_within : n ≤ length after
   booked_within =
       let b = booked_lies a st f n before after h m in
@@ -70,7 +71,7 @@ books_longer st w a r k n f short h (inl (presents, inr (full, e))) =
 
 module _ {X : Type 0} (whole rest : X → Entries) where
   -- a booking with the first k bytes lent of memory of 85
-  pub does_longer : (l m : Line X) (r s : Numbers) (n k : ℕ) (memory : List ℕ) (x : Answer)
+  pub does_longer : (l m : Line X) (r s : Numbers) (n k : ℕ) (memory : List ℕ) (x : Result Answer Refusal)
       → Does whole rest l (Book s (length (take (k - 0) memory))) x m → s ≡ r → length memory ≡ 85
       → k ≡ min n 85 → Does whole rest l (Book r n) x m
   does_longer l m r s n k memory x d e long h =
@@ -90,7 +91,7 @@ module _ {X : Type 0} (whole rest : X → Entries) where
   -- and its line, b bytes long, joins those noted
   pub called_booking : (p : Played X) (v : Vec ℕ Global) (m : Line X) (r s : Numbers) (n k b : ℕ)
       (memory after behind : List ℕ) (ok : Bool)
-      (d : Does whole rest p.line (Book s (length (take (k - 0) memory))) (Booked b) m)
+      (d : Does whole rest p.line (Book s (length (take (k - 0) memory))) (Ok (Booked b)) m)
       → Writes d.effect (take (k - 0) memory) after → s ≡ r → length memory ≡ 85 → k ≡ min n 85
       → length after ≡ length (take (k - 0) memory)
       → vec_items v
@@ -98,7 +99,7 @@ module _ {X : Type 0} (whole rest : X → Entries) where
       → (vec_len p.log.lines + length (take (b - 0) (after ++ behind)) ≤ vec_capacity p.log.lines
       → ok ≡ true)
       → vec_len p.log.lines + 85 ≤ vec_capacity p.log.lines → vec_capacity p.log.lines ≤ vec_capacity v
-      → Called whole rest p (Book r n) (Booked b)
+      → Called whole rest p (Book r n) (Ok (Booked b))
       (record { line = m; log = record { replies = p.log.replies; reports = p.log.reports; lines = v } })
   unfolding does_longer
   called_booking p v m r s n k b memory after behind ok d w e long h same items fits room grows =
@@ -113,7 +114,7 @@ module _ {X : Type 0} (whole rest : X → Entries) where
       let yes : ok ≡ true = fits (omega arith) in
       let all : vec_items v ≡ vec_items p.log.lines ++ more = rw yes at items in
       record {
-        does = does_longer p.line m r s n k memory (Booked b) d e long h;
+        does = does_longer p.line m r s n k memory (Ok (Booked b)) d e long h;
         replies = refl;
         reports = refl;
         lines = rw bytes at all;

@@ -29,15 +29,15 @@ record Handed (st mid : State) (n : Numbers) : Type 0 where
   own : n ≡ record { number = mid.number; count = mid.count }
 
 handed : (st mid : State) (n : Numbers) (a : Entries) (f : Effect) → Claiming st f → mid ≡ after st f
-    → Replies a mid f (answer.Claimed n) → Handed st mid n
+    → Replies a mid f (Ok (answer.Claimed n)) → Handed st mid n
 handed st mid n a f (inl (h, p)) state answered = record {
   ending = h.0;
   done = h.1;
   after_it = subst (λ x. mid ≡ after st x) p state;
-  own = let q = subst (λ x. Replies a mid x (answer.Claimed n)) p answered in cc;
+  own = let q = subst (λ x. Replies a mid x (Ok (answer.Claimed n))) p answered in cc;
 }
 handed st mid n a f (inr (never, p)) state answered =
-    let q = subst (λ x. Replies a mid x (answer.Claimed n)) p answered in
+    let q = subst (λ x. Replies a mid x (Ok (answer.Claimed n))) p answered in
     absurd (let z : ◌≡◌ {A = ℕ} 0 1 = cc in omega arith)
 
 -- a claimed line books by its own numbers wherever there is room for 85 bytes
@@ -59,7 +59,7 @@ settled st mid n h room f short long (inr (never, q)) =
     absurd (never (h.ending, phase, ap (λ x. x.number) h.own, ap (λ x. x.count) h.own))
 
 module _ {X : Type 0} (whole rest : X → Entries) (l mid m : Line X) (r : Receipt) (before mem : List ℕ)
-    (room : 85 ≤ length before) (claimed : Does whole rest l Claim (answer.Claimed (numbers_of r)) mid) where
+    (room : 85 ≤ length before) (claimed : Does whole rest l Claim (Ok (answer.Claimed (numbers_of r))) mid) where
   claim_handed : Handed (state_of l) (state_of mid) (numbers_of r)
   claim_handed = handed (state_of l) (state_of mid) (numbers_of r) (rest mid.plan) claimed.effect
       claimed.allowed claimed.state claimed.answered
@@ -76,21 +76,21 @@ module _ {X : Type 0} (whole rest : X → Entries) (l mid m : Line X) (r : Recei
 
   pub book_accepted : (e : Refusal × Receipt) → Booked whole rest mid r before (Err e) m mem → ⊥
   book_accepted e b =
-      let q = subst (λ f. Replies (rest m.plan) (state_of m) f (answer.Refused e.0))
+      let q = subst (λ f. Replies (rest m.plan) (state_of m) f (Err e.0))
       (book_settles (Err e) b) b.does.answered in
       let z : ◌≡◌ {A = ℕ} 0 1 = cc in omega arith
 
   pub closed : (k : ℕ) → Booked whole rest mid r before (Ok k) m mem → Closes whole rest l before m mem (Ok k)
   closed k b =
       let s = book_settles (Ok k) b in
-      let q = subst (λ f. Replies (rest m.plan) (state_of m) f (answer.Booked k)) s b.does.answered in
+      let q = subst (λ f. Replies (rest m.plan) (state_of m) f (Ok (answer.Booked k))) s b.does.answered in
       let n : k ≡ length line = cc in
       let book = Book (numbers_of r) (length before) in
       let both : Closed whole rest l before line m mem = record {
         mid = mid;
         numbers = numbers_of r;
         claimed = claimed;
-        booked = subst (λ x. Does whole rest mid book (answer.Booked x) m) n b.does;
+        booked = subst (λ x. Does whole rest mid book (Ok (answer.Booked x)) m) n b.does;
         memory = subst (λ f. Writes f before mem) s b.memory;
       } in
       inl (room, inl ((claim_handed.ending, claim_handed.done), (ap Ok n, both)))

@@ -1,11 +1,12 @@
 -- A line follows a record of keys, and what a call does to it is a step of the record. Assumes nothing.
-use Rattle.std.proofs.Common.{◌≡◌, ℕ, Some, None, Option, sym, refl, ap, ◌∙◌, subst}
+use Rattle.std.proofs.Common.{◌≡◌, ℕ, Some, None, Option, sym, refl, ap, ◌∙◌, subst, Result}
 use Rattle.keypad.specs.Entries.{Entries}
 use Rattle.keypad.specs.Sets.{Same, Remains}
 use Rattle.keypad.proofs.Sames.{same_trans, remains_same, remains-++}
 use Rattle.key_record.specs.declared.answer.Answer.{Answer}
 use Rattle.key_record.specs.declared.call.Call.{Call}
 use Rattle.key_record.specs.declared.ending.Phase.TheVariants.{Open}
+use Rattle.key_record.specs.declared.refusal.Refusal.{Refusal}
 use Rattle.key_record.specs.declared.timer.Timer.{Timer}
 use Rattle.key_record.specs.Turns.{still, over}
 use Rattle.key_record.specs.States.{State, Running}
@@ -57,7 +58,7 @@ remains_after w v a b st c (claims e) g h n k o = absurd (claimed_shut _ e refl 
 remains_after w v a b st c (settles l) g h n k o = absurd (idle_shut _ refl o)
 
 module _ {X : Type 0} (whole rest : X → Entries) (w : Entries) (l m : Line X) (r : Kept) (c : Call)
-    (x : Answer)
+    (x : Result Answer Refusal)
     (f : Follows whole rest w l r) (d : Does whole rest l c x m) where
   allowed_here : Allows r.state (whole l.plan) (rest l.plan) c d.effect
   allowed_here = subst (λ st. Allows st (whole l.plan) (rest l.plan) c d.effect) f.state

@@ -1,7 +1,7 @@
 -- A timer of an open line. Assumes nothing.
-use Rattle.std.proofs.Common.{◌≡◌, ℕ, Some, None, sym, refl, ap, ◌∙◌, subst, inl, inr, append-nil, arith}
+use Rattle.std.proofs.Common.{◌≡◌, ℕ, Some, None, sym, refl, ap, ◌∙◌, subst, inl, inr, append-nil, arith, Ok, Err}
 use Rattle.keypad.specs.Entries.{Entries}
-use Rattle.key_record.specs.declared.answer.Answer.TheVariants.{Moved, Refused}
+use Rattle.key_record.specs.declared.answer.Answer.TheVariants.{Moved}
 use Rattle.key_record.specs.declared.answer.Progress.TheVariants.{Done}
 use Rattle.key_record.specs.declared.call.Call.TheVariants.{Expire}
 use Rattle.key_record.specs.declared.ending.Method.{Method}
@@ -23,7 +23,7 @@ use Rattle.line.proofs.Refusing.{refusing}
 module _ {X : Type 0} (whole rest : X → Entries) (l : Line X) (t : Timer) where
   -- none runs
   pub lapse_none : Running (state_of l) (rest l.plan) None
-      → Does whole rest l (Expire t) (Refused NoTimer) l
+      → Does whole rest l (Expire t) (Err NoTimer) l
   lapse_none none =
       let never : (v : Timer × ℕ) × Running (state_of l) (rest l.plan) (Some v) → ⊥ = λ r.
       let e = running_single (state_of l) (rest l.plan) None (Some r.0) none r.1 in
@@ -33,7 +33,7 @@ module _ {X : Type 0} (whole rest : X → Entries) (l : Line X) (t : Timer) wher
 
   -- s runs
   module _ (s : Timer) (n : ℕ) (running : Running (state_of l) (rest l.plan) (Some (s, n))) where
-    pub lapse_other : (s ≡ t → ⊥) → Does whole rest l (Expire t) (Refused OtherTimer) l
+    pub lapse_other : (s ≡ t → ⊥) → Does whole rest l (Expire t) (Err OtherTimer) l
     lapse_other other =
         let never : (i : ℕ) × Running (state_of l) (rest l.plan) (Some (t, i)) → ⊥ = λ r.
         let e = running_single (state_of l) (rest l.plan) (Some (s, n)) (Some (t, r.0)) running r.1 in
@@ -43,11 +43,11 @@ module _ {X : Type 0} (whole rest : X → Entries) (l : Line X) (t : Timer) wher
 
     pub lapse_over : (m : Line X) (method : Method) → s ≡ t → Falls (rest l.plan) method
         → state_of m ≡ finished (state_of l) (record { method = method; trigger = Expiry t })
-        → m.plan ≡ l.plan → Does whole rest l (Expire t) (Moved Done) m
+        → m.plan ≡ l.plan → Does whole rest l (Expire t) (Ok (Moved Done)) m
     lapse_over m method same falls state plan =
         let named = subst (λ v. Running (state_of l) (rest l.plan) (Some (v, n))) same running in
         let ended = finished (state_of l) (record { method = method; trigger = Expiry t }) in
-        does_press whole rest l (Expire t) (lapsed method t) (Moved Done) m
+        does_press whole rest l (Expire t) (lapsed method t) (Ok (Moved Done)) m
         (inl (((s, n), running), inl ((n, named), (method, falls, refl))))
         (state ∙ ap (with_dial ended) (sym (append-nil (state_of l).dial))) refl
         (same_at whole plan) (same_at rest plan)

@@ -1,5 +1,5 @@
 -- One call, noted with its reply and the report that it brought. Assumes nothing.
-use Rattle.std.proofs.Common.{◌≡◌, ℕ, ◌+◌, ◌*◌, ◌≤◌, List, [], ◌∷◌, ◌++◌, map, Some, None, vec_items, vec_len, vec_capacity, Option, Vec, sym, refl, ap, ◌∙◌, arith}
+use Rattle.std.proofs.Common.{◌≡◌, ℕ, ◌+◌, ◌*◌, ◌≤◌, List, [], ◌∷◌, ◌++◌, map, Some, None, vec_items, vec_len, vec_capacity, Option, Vec, sym, refl, ap, ◌∙◌, arith, Result}
 use Rattle.std.proofs.lemmas.List.{append-nil, map-append}
 use Rattle.std.specs.declared.alloc.Global.{Global}
 use Rattle.keypad.specs.declared.key.Symbol.{Symbol}
@@ -9,6 +9,7 @@ use Rattle.key_record.specs.declared.answer.Reply.{Reply}
 use Rattle.key_record.specs.declared.call.Call.{Call}
 use Rattle.key_record.specs.declared.ending.Ending.{Ending}
 use Rattle.key_record.specs.declared.ending.Phase.TheVariants.{Done}
+use Rattle.key_record.specs.declared.refusal.Refusal.{Refusal}
 use Rattle.key_record.specs.declared.timer.Timer.{Timer}
 use Rattle.key_record.specs.Agreement.{Reported as ReportedAs}
 use Rattle.key_record.specs.Effects.{Effect, refuses, queues, begins, presses, claims, settles, after, Replies}
@@ -34,7 +35,7 @@ listed_done e d None h = absurd h
 listed_done e d (Some r) h = let p = h.0 in let q = h.1 in cc
 
 -- the report that is told after an effect is the one that the effect brought
-listed_brought : (a : Entries) (old st : State) (f : Effect) (x : Answer) (r : Option Report) → st
+listed_brought : (a : Entries) (old st : State) (f : Effect) (x : Result Answer Refusal) (r : Option Report) → st
     ≡ after old f
     → Replies a st f x → Brings x st.phase st.dial r → listed r ≡ brought st f
 listed_brought a old st (refuses why) x r e h b = ap listed (rw h at b)
@@ -50,7 +51,7 @@ listed_brought a old st (settles None) x r e h b = ap listed (rw h at b)
 listed_brought a old st (settles (Some l)) x r e h b = ap listed (rw h at b)
 
 -- the call on p, with its report noted in q
-pub record Brought {X : Type 0} (whole rest : X → Entries) (p : Played X) (c : Call) (x : Answer)
+pub record Brought {X : Type 0} (whole rest : X → Entries) (p : Played X) (c : Call) (x : Result Answer Refusal)
     (q : Played X) : Type 0 where
   pub does : Does whole rest p.line c x q.line
   pub replies : q.log.replies ≡ p.log.replies
@@ -60,7 +61,7 @@ pub record Brought {X : Type 0} (whole rest : X → Entries) (p : Played X) (c :
   pub room : (n : ℕ) → Room p.log (n + 1) → (vec_len q.log.reports + n ≤ vec_capacity q.log.reports)
       × (vec_len q.log.lines + 85 * n ≤ vec_capacity q.log.lines)
 
-module _ {X : Type 0} (whole rest : X → Entries) (p : Played X) (c : Call) (x : Answer) (q : Played X) where
+module _ {X : Type 0} (whole rest : X → Entries) (p : Played X) (c : Call) (x : Result Answer Refusal) (q : Played X) where
   -- what the report told after the call adds to the reports
   brought_by_call : (d : Called whole rest p c x q) (r : Option Report)
       → Brings x q.line.phase (state_of q.line).dial r → (v : Vec Report Global)

@@ -1,5 +1,5 @@
 -- A key of an open line. Assumes nothing.
-use Rattle.std.proofs.Common.{◌≡◌, ℕ, ◌≤◌, Bool, true, false, cond, ltb, List, [], ◌∷◌, ◌++◌, length, Some, None, Option, sym, refl, ap, ◌∙◌, subst, inl, arith}
+use Rattle.std.proofs.Common.{◌≡◌, ℕ, ◌≤◌, Bool, true, false, cond, ltb, List, [], ◌∷◌, ◌++◌, length, Some, None, Option, sym, refl, ap, ◌∙◌, subst, inl, arith, Ok, Result}
 use Rattle.std.proofs.lemmas.List.{nil_from_length}
 use Rattle.keypad.specs.declared.key.KeyEvent.{KeyEvent}
 use Rattle.keypad.specs.Entries.{Entries}
@@ -12,6 +12,7 @@ use Rattle.key_record.specs.declared.call.Call.{Call}
 use Rattle.key_record.specs.declared.call.Call.TheVariants as call
 use Rattle.key_record.specs.declared.ending.Ending.{Ending}
 use Rattle.key_record.specs.declared.ending.Phase.TheVariants as phase
+use Rattle.key_record.specs.declared.refusal.Refusal.{Refusal}
 use Rattle.key_record.specs.declared.timer.Timer.{Timer}
 use Rattle.key_record.specs.Effects.{presses, pressed_by, Progresses}
 use Rattle.key_record.specs.Rules.{Allows, Fits}
@@ -39,7 +40,7 @@ open_clear l stands =
 
 module _ {X : Type 0} (whole rest : X → Entries) (l : Line X) where
   -- a call that brings the open entry to an outcome
-  pub does_press : (c : Call) (out : Outcome) (x : Answer) (m : Line X)
+  pub does_press : (c : Call) (out : Outcome) (x : Result Answer Refusal) (m : Line X)
       → Allows (state_of l) (whole l.plan) (rest l.plan) c (presses out)
       → state_of m ≡ lands (state_of l) out → Progresses (rest m.plan) (state_of m) out x
       → Same (whole m.plan) (whole l.plan)
@@ -56,7 +57,7 @@ module _ {X : Type 0} (whole rest : X → Entries) (l : Line X) where
 
   module _ (k : KeyEvent) (stands : l.phase ≡ phase.Open) (small : k.key ≤ 15)
       (fits : Fits (state_of l) (rest l.plan) k) where
-    does_turn : (x : Answer) (m : Line X) (u : Turned) → Turns l.settings (rest l.plan) k u
+    does_turn : (x : Result Answer Refusal) (m : Line X) (u : Turned) → Turns l.settings (rest l.plan) k u
         → state_of m ≡ lands (state_of l) (turned_outcome u k)
         → Progresses (rest m.plan) (state_of m) (turned_outcome u k) x
         → Same (whole m.plan) (whole l.plan)
@@ -71,13 +72,13 @@ module _ {X : Type 0} (whole rest : X → Entries) (l : Line X) where
 
     -- the entry goes on
     pub press_on : (m : Line X) (v : Option (Timer × ℕ)) → Processed whole rest l k None m
-        → Running (state_of m) (rest m.plan) v → Does whole rest l (call.Key k) (Moved (Wait v)) m
+        → Running (state_of m) (rest m.plan) v → Does whole rest l (call.Key k) (Ok (Moved (Wait v))) m
     press_on m v p running =
         let a = rest l.plan in
         by_still (λ u. Turns l.settings a k u → state_of m ≡ dialled_on (state_of l) (turned_symbols u)
         → Same (rest m.plan) (Remains a (turned_symbols u))
-        → Does whole rest l (call.Key k) (Moved (Wait v)) m)
-        (λ y turns state remains. does_turn (Moved (Wait v)) m (pressed y) turns
+        → Does whole rest l (call.Key k) (Ok (Moved (Wait v))) m)
+        (λ y turns state remains. does_turn (Ok (Moved (Wait v))) m (pressed y) turns
         (state ∙ ap (with_phase (dialled_on (state_of l) (y ∷ []))) stands) (v, running, refl) p.same
         remains)
         p.turned p.ended p.turns p.state p.remains
@@ -90,27 +91,27 @@ module _ {X : Type 0} (whole rest : X → Entries) (l : Line X) where
 
       over : (m : Line X) (b : Bool) → b ≡ keeps f.settings.disposition e.trigger → m.plan ≡ f.plan
           → state_of m ≡ with_ahead (state_of f) (cond b (k ∷ (state_of f).ahead) (state_of f).ahead)
-          → Does whole rest l (call.Key k) (Moved Done) m
+          → Does whole rest l (call.Key k) (Ok (Moved Done)) m
       over m b kept whose state =
           let u = p.turned in
           let same-plan = sym (whose ∙ plan) in
-          does_turn (Moved Done) m u p.turns
+          does_turn (Ok (Moved Done)) m u p.turns
           (state ∙ (ap (λ s. with_ahead s (cond b (k ∷ s.ahead) s.ahead)) reached
           ∙ lands_ended (state_of l) k b u e p.ended
           (kept ∙ ap (λ s. keeps s.settings.disposition e.trigger) reached)))
-          (by_ending (λ t _. Progresses (rest m.plan) (state_of m) (turned_outcome t k) (Moved Done))
+          (by_ending (λ t _. Progresses (rest m.plan) (state_of m) (turned_outcome t k) (Ok (Moved Done)))
           (λ _ _. refl) (λ _ _. refl) u e p.ended)
           (subst (λ q. Same (whole q) (whole l.plan)) same-plan p.same)
           (subst (λ q. Same (rest q) (Remains (rest l.plan) (turned_symbols u))) same-plan p.remains)
 
       pub press_lost : false ≡ keeps f.settings.disposition e.trigger
-          → Does whole rest l (call.Key k) (Moved Done) f
+          → Does whole rest l (call.Key k) (Ok (Moved Done)) f
       press_lost lost = over f false lost refl refl
 
       -- an open line has no key ahead, so that the one kept is its first
       pub press_kept : (m : Line X) → true ≡ keeps f.settings.disposition e.trigger → m.plan ≡ f.plan
           → state_of m ≡ with_ahead (state_of f) (state_of m).ahead
-          → (state_of m).ahead ≡ joined (state_of f).ahead k → Does whole rest l (call.Key k) (Moved Done) m
+          → (state_of m).ahead ≡ joined (state_of f).ahead k → Does whole rest l (call.Key k) (Ok (Moved Done)) m
       press_kept m kept whose others ahead =
           let none : (state_of f).ahead ≡ [] = ap (λ s. s.ahead) reached ∙ open_clear l stands in
           let first : joined (state_of f).ahead k ≡ k ∷ (state_of f).ahead =

@@ -1,8 +1,7 @@
 -- A refused call. Assumes nothing.
-use Rattle.std.proofs.Common.{refl}
+use Rattle.std.proofs.Common.{refl, Err}
 use Rattle.keypad.specs.Entries.{Entries}
 use Rattle.keypad.proofs.Sames.{same_refl}
-use Rattle.key_record.specs.declared.answer.Answer.TheVariants.{Refused}
 use Rattle.key_record.specs.declared.call.Call.{Call}
 use Rattle.key_record.specs.declared.refusal.Refusal.{Refusal}
 use Rattle.key_record.specs.Effects.{refuses}
@@ -14,7 +13,7 @@ use Rattle.line.specs.Lines.{state_of}
 -- a call that the rules refuse leaves the line as it was
 abbrev pub refusing : {X : Type 0} (whole rest : X → Entries) (l : Line X) (c : Call) (why : Refusal)
     → Allows (state_of l) (whole l.plan) (rest l.plan) c (refuses why)
-    → Does whole rest l c (Refused why) l
+    → Does whole rest l c (Err why) l
 refusing whole rest l c why h = record {
   effect = refuses why;
   allowed = h;

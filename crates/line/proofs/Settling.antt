@@ -1,5 +1,5 @@
 -- Claiming, booking and waiving a report. Assumes nothing.
-use Rattle.std.proofs.Common.{◌≡◌, ℕ, ◌≤◌, true, false, List, ◌++◌, length, drop, is_some, Some, None, Ok, Err, Option, refl, ap, ◌∙◌, subst, inl, inr, arith}
+use Rattle.std.proofs.Common.{◌≡◌, ℕ, ◌≤◌, true, false, List, ◌++◌, length, drop, is_some, Some, None, Ok, Err, Option, refl, ap, ◌∙◌, subst, inl, inr, arith, Result}
 use Rattle.keypad.specs.Entries.{Entries}
 use Rattle.keypad.specs.Sets.{Same}
 use Rattle.keypad.proofs.Sames.{same_refl}
@@ -11,6 +11,7 @@ use Rattle.key_record.specs.declared.call.Numbers.{Numbers}
 use Rattle.key_record.specs.declared.ending.Ending.{Ending}
 use Rattle.key_record.specs.declared.ending.Phase.TheVariants.{Idle, Done, Claimed}
 use Rattle.key_record.specs.declared.refusal.Refusal.TheVariants as refusal
+use Rattle.key_record.specs.declared.refusal.Refusal.{Refusal}
 use Rattle.key_record.specs.Effects.{claims, settles, Replies}
 use Rattle.key_record.specs.Letters.{report_line}
 use Rattle.key_record.specs.Rules.{Allows, Presents}
@@ -44,19 +45,19 @@ module _ {X : Type 0} (whole rest : X → Entries) (l m : Line X) (kept : m.plan
   pub claiming : (e : Ending) (r : Receipt) → l.phase ≡ Done e
       → numbers_of r ≡ record { number = m.number; count = m.count }
       → state_of m ≡ with_phase (state_of l) (Claimed e)
-      → Does whole rest l Claim (answer.Claimed (numbers_of r)) m
+      → Does whole rest l Claim (Ok (answer.Claimed (numbers_of r))) m
   claiming e r done given state = record {
     effect = claims e;
     allowed = inl ((e, done), refl);
     state = state;
-    answered = ap answer.Claimed given;
+    answered = ap (λ u. Ok (answer.Claimed u)) given;
     same = plan_same whole;
     remains = plan_same rest;
     unmoved = λ why u. absurd (let z : ◌≡◌ {A = ℕ} 0 1 = cc in omega arith);
   }
 
   -- the receipt is taken, and the report line written or none
-  abbrev settling : (c : Call) (line : Option (List ℕ)) (x : Answer)
+  abbrev settling : (c : Call) (line : Option (List ℕ)) (x : Result Answer Refusal)
       → Allows (state_of l) (whole l.plan) (rest l.plan) c (settles line)
       → state_of m ≡ with_phase (state_of l) Idle
       → Replies (rest m.plan) (state_of m) (settles line) x
@@ -75,7 +76,7 @@ module _ {X : Type 0} (whole rest : X → Entries) (l m : Line X) (kept : m.plan
       (state : state_of m ≡ with_phase (state_of l) Idle) where
     pub waived : Presents (state_of l) n → Waived whole rest l r (Ok tt) m
     waived p = record {
-      does = settling (Waive (numbers_of r)) None answer.Waived
+      does = settling (Waive (numbers_of r)) None (Ok answer.Waived)
           (inl (subst (Presents (state_of l)) shown p, refl)) state refl;
       back = tt;
     }
@@ -85,11 +86,11 @@ module _ {X : Type 0} (whole rest : X → Entries) (l m : Line X) (kept : m.plan
         → Booked whole rest l r before (Ok k) m mem
     booked e line before mem k p text laid long = record {
       does = settling (Book (numbers_of r) (length before)) (Some (report_line (dialled l.dial) e))
-          (answer.Booked k) (inl (
+          (Ok (answer.Booked k)) (inl (
             subst (Presents (state_of l)) shown (e, p.0, p.1, p.2),
             inl (subst (λ x. length x ≤ length before) text laid.0, refl),
           ))
-          state (ap answer.Booked (long ∙ ap length text));
+          state (ap (λ u. Ok (answer.Booked u)) (long ∙ ap length text));
       memory = subst (λ x. mem ≡ x ++ drop (length x) before) text laid.1;
       back = tt;
     }

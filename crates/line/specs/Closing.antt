@@ -20,8 +20,8 @@ pub record Closed {X : Type 0} (whole rest : X → Entries) (l : Line X) (before
     (after : List ℕ) : Type 0 where
   pub mid : Line X
   pub numbers : Numbers
-  pub claimed : Does whole rest l Claim (Claimed numbers) mid
-  pub booked : Does whole rest mid (Book numbers (length before)) (Booked (length line)) m
+  pub claimed : Does whole rest l Claim (Ok (Claimed numbers)) mid
+  pub booked : Does whole rest mid (Book numbers (length before)) (Ok (Booked (length line))) m
   pub memory : after ≡ line ++ drop (length line) before
 
 -- refused, with line and memory as they were

@@ -3,7 +3,7 @@ use Rattle.std.specs.Prelude.{◌≡◌, Ok, Err, Result}
 use Rattle.keypad.specs.Entries.{Entries}
 use Rattle.keypad.specs.Sets.{Same, Remains}
 use Rattle.key_record.specs.declared.answer.Answer.{Answer}
-use Rattle.key_record.specs.declared.answer.Answer.TheVariants.{Moved, Claimed, Refused}
+use Rattle.key_record.specs.declared.answer.Answer.TheVariants.{Moved, Claimed}
 use Rattle.key_record.specs.declared.answer.Progress.{Progress}
 use Rattle.key_record.specs.declared.call.Call.{Call}
 use Rattle.key_record.specs.declared.call.Call.TheVariants as call
@@ -20,7 +20,7 @@ use Rattle.line.specs.Receipts.{numbers_of}
 -- the call c has an effect that the rules allow at the line l; x is its answer and m the line after it. The
 -- plan keeps its whole and has taken the symbols that the effect pressed; a refused call leaves the line as
 -- it was
-pub record Does {X : Type 0} (whole rest : X → Entries) (l : Line X) (c : Call) (x : Answer)
+pub record Does {X : Type 0} (whole rest : X → Entries) (l : Line X) (c : Call) (x : Result Answer Refusal)
     (m : Line X) : Type 0 where
   pub effect : Effect
   pub allowed : Allows (state_of l) (whole l.plan) (rest l.plan) c effect
@@ -32,13 +32,13 @@ pub record Does {X : Type 0} (whole rest : X → Entries) (l : Line X) (c : Call
   pub unmoved : (why : Refusal) → effect ≡ refuses why → m ≡ l
 
 -- the answer of an arming, a key or an expiry, and of a claim
-abbrev pub moved : Result Progress Refusal → Answer
-moved (Ok p) = Moved p
-moved (Err why) = Refused why
+abbrev pub moved : Result Progress Refusal → Result Answer Refusal
+moved (Ok p) = Ok (Moved p)
+moved (Err why) = Err why
 
-abbrev pub handed : Result Receipt Refusal → Answer
-handed (Ok r) = Claimed (numbers_of r)
-handed (Err why) = Refused why
+abbrev pub handed : Result Receipt Refusal → Result Answer Refusal
+handed (Ok r) = Ok (Claimed (numbers_of r))
+handed (Err why) = Err why
 
 abbrev pub call_of : Input → Call
 call_of (input.Arm s) = call.Arm s

@@ -1,9 +1,10 @@
 -- A list of calls played on a line. Assumes nothing.
-use Rattle.std.specs.Prelude.{◌≡◌, ℕ, ◌+◌, ◌≤◌, List, [], ◌∷◌, ◌++◌, map, vec_items, vec_len, vec_capacity}
+use Rattle.std.specs.Prelude.{◌≡◌, ℕ, ◌+◌, ◌≤◌, List, [], ◌∷◌, ◌++◌, map, vec_items, vec_len, vec_capacity, Result}
 use Rattle.keypad.specs.Entries.{Entries}
 use Rattle.key_record.specs.declared.answer.Answer.{Answer}
 use Rattle.key_record.specs.declared.answer.Reply.{Reply}
 use Rattle.key_record.specs.declared.call.Call.{Call}
+use Rattle.key_record.specs.declared.refusal.Refusal.{Refusal}
 use Rattle.key_record.specs.Agreement.{Reported, Shown}
 use Rattle.key_record.specs.Effects.{Effect, refuses, queues, begins, presses, claims, settles}
 use Rattle.key_record.specs.Entry.{open_dial}
@@ -44,7 +45,7 @@ brought st (claims e) = []
 brought st (settles l) = []
 
 -- one call, with the bytes that it wrote
-pub record Called {X : Type 0} (whole rest : X → Entries) (l : Played X) (c : Call) (x : Answer)
+pub record Called {X : Type 0} (whole rest : X → Entries) (l : Played X) (c : Call) (x : Result Answer Refusal)
     (m : Played X) : Type 0 where
   pub does : Does whole rest l.line c x m.line
   pub replies : m.log.replies ≡ l.log.replies

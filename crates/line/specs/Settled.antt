@@ -21,13 +21,13 @@ abbrev pub Presented : State → Numbers → Option Ending → Type 0
 Presented st r (Some e) = (st.phase ≡ Claimed e) × (r.number ≡ st.number) × (r.count ≡ st.count)
 Presented st r None = Presents st r → ⊥
 
-abbrev pub book_answer : Result ℕ (Refusal × Receipt) → Answer
-book_answer (Ok n) = answer.Booked n
-book_answer (Err e) = answer.Refused e.0
+abbrev pub book_answer : Result ℕ (Refusal × Receipt) → Result Answer Refusal
+book_answer (Ok n) = Ok (answer.Booked n)
+book_answer (Err e) = Err e.0
 
-abbrev pub waive_answer : Result (Unit {0}) (Refusal × Receipt) → Answer
-waive_answer (Ok u) = answer.Waived
-waive_answer (Err e) = answer.Refused e.0
+abbrev pub waive_answer : Result (Unit {0}) (Refusal × Receipt) → Result Answer Refusal
+waive_answer (Ok u) = Ok answer.Waived
+waive_answer (Err e) = Err e.0
 
 -- a refusal hands the receipt back
 abbrev pub HandedBack : {T : Type 0} → Receipt → Result T (Refusal × Receipt) → Type 0

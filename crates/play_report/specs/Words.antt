@@ -1,10 +1,11 @@
 -- Replies, reports, the open entry and the keys ahead in words. Assumes nothing.
-use Rattle.std.specs.Prelude.{ℕ, cond, List, [], ◌∷◌, ◌++◌, Some, None, codes, decimal, Option, ◌==◌}
+use Rattle.std.specs.Prelude.{ℕ, cond, List, [], ◌∷◌, ◌++◌, Some, None, codes, decimal, Option, ◌==◌, Ok, Err, Result}
 use Rattle.keypad.specs.declared.key.KeyEvent.{KeyEvent}
 use Rattle.keypad.specs.declared.key.Symbol.{Symbol}
 use Rattle.key_record.specs.declared.answer.Answer.{Answer}
-use Rattle.key_record.specs.declared.answer.Answer.TheVariants.{Moved, Claimed, Booked, Waived, Refused}
+use Rattle.key_record.specs.declared.answer.Answer.TheVariants.{Moved, Claimed, Booked, Waived}
 use Rattle.key_record.specs.declared.answer.Reply.{Reply}
+use Rattle.key_record.specs.declared.refusal.Refusal.{Refusal}
 use Rattle.key_record.specs.declared.timer.Timer.{Timer}
 use Rattle.key_record.specs.Agreement.{Reported}
 use Rattle.key_record.specs.Dials.{fresh}
@@ -18,12 +19,12 @@ timer_words None = codes "-"
 timer_words (Some (t, s)) = timer_letter_lem t ∷ 32 ∷ decimal s
 
 -- how far the line has come, or as `receipt 1 3`, `booked 17`, `waived` or `no 51`
-abbrev pub answer_words : Answer → List ℕ
-answer_words (Moved p) = progress_words p
-answer_words (Claimed n) = codes "receipt " ++ (decimal n.number ++ (codes " " ++ decimal n.count))
-answer_words (Booked n) = codes "booked " ++ decimal n
-answer_words Waived = codes "waived"
-answer_words (Refused r) = codes "no " ++ decimal (refusal_number r)
+abbrev pub answer_words : Result Answer Refusal → List ℕ
+answer_words (Ok (Moved p)) = progress_words p
+answer_words (Ok (Claimed n)) = codes "receipt " ++ (decimal n.number ++ (codes " " ++ decimal n.count))
+answer_words (Ok (Booked n)) = codes "booked " ++ decimal n
+answer_words (Ok Waived) = codes "waived"
+answer_words (Err r) = codes "no " ++ decimal (refusal_number r)
 
 -- as `wait L 16 | L 16`
 abbrev pub reply_line : Reply → List ℕ

@@ -7,6 +7,7 @@ ghost use Rattle.play_report.specs.Words.{key_words};
 
 use commands::told::{add_number, add_progress};
 use key_record::answer::{Answer, Reply};
+use key_record::refusal::Refusal;
 use key_record::timer::Timer;
 use keypad::key::KeyEvent;
 use line_parts::dial::Dial;
@@ -37,20 +38,20 @@ fn add_counted(text: &mut Text, word: &[u8], number: usize)
     add_number(text, number);
 }
 
-// Adds the answer to a call.
-fn add_answer(text: &mut Text, answer: Answer)
+// Adds the answer to a call, or its refusal.
+fn add_answer(text: &mut Text, answer: Result<Answer, Refusal>)
     ensures after { text_of text.new ≡ cut (text_of text.old ++ answer_words answer) }
     ensures bound { length (answer_words answer) ≤ 49 }
 {
     match answer {
-        Answer::Moved(progress) => add_progress(text, progress),
-        Answer::Claimed(numbers) => {
+        Ok(Answer::Moved(progress)) => add_progress(text, progress),
+        Ok(Answer::Claimed(numbers)) => {
             add_counted(text, b"receipt ", numbers.number as usize);
             add_counted(text, b" ", numbers.count as usize);
         }
-        Answer::Booked(length) => add_counted(text, b"booked ", length),
-        Answer::Waived => text.push_all(b"waived"),
-        Answer::Refused(refusal) => add_counted(text, b"no ", usize::from(refusal.number())),
+        Ok(Answer::Booked(length)) => add_counted(text, b"booked ", length),
+        Ok(Answer::Waived) => text.push_all(b"waived"),
+        Err(refusal) => add_counted(text, b"no ", usize::from(refusal.number())),
     }
 }
 

@@ -1,5 +1,5 @@
 -- What closing a line prints: its report line. Assumes nothing.
-use Rattle.std.proofs.Common.{◌≡◌, ℕ, List, [], ◌∷◌, ◌++◌, length, refl, ap, ◌∙◌, subst, inl, inr, append-nil, arith}
+use Rattle.std.proofs.Common.{◌≡◌, ℕ, List, [], ◌∷◌, ◌++◌, length, refl, ap, ◌∙◌, subst, inl, inr, append-nil, arith, Ok}
 use Rattle.keypad.specs.declared.timers.Timers.{Timers}
 use Rattle.keypad.specs.Entries.{Entries}
 use Rattle.key_record.specs.declared.answer.Answer.TheVariants as answer
@@ -28,14 +28,14 @@ claim_claims st e f done (inr (never, p)) = absurd (never (e, done))
 
 -- a booking that is answered with a length writes the report line
 book_writes : (st : State) (e : Ending) (r : Numbers) (n k : ℕ) (a : Entries) (z : State) (f : Effect)
-    → st.phase ≡ Claimed e → Booking st r n f → Replies a z f (answer.Booked k)
+    → st.phase ≡ Claimed e → Booking st r n f → Replies a z f (Ok (answer.Booked k))
     → written f ≡ report_line st.dial e
 book_writes st e r n k a z f claimed (inl (h, inl (fits, p))) booked = let found = h.1 in ap written p ∙ cc
 book_writes st e r n k a z f claimed (inl (h, inr (never, p))) booked =
-    let q = subst (λ x. Replies a z x (answer.Booked k)) p booked in
+    let q = subst (λ x. Replies a z x (Ok (answer.Booked k))) p booked in
     absurd (let y : ◌≡◌ {A = ℕ} 0 1 = cc in omega arith)
 book_writes st e r n k a z f claimed (inr (never, p)) booked =
-    let q = subst (λ x. Replies a z x (answer.Booked k)) p booked in
+    let q = subst (λ x. Replies a z x (Ok (answer.Booked k))) p booked in
     absurd (let y : ◌≡◌ {A = ℕ} 0 1 = cc in omega arith)
 
 module _ {X : Type 0} (whole rest : X → Entries) (l m : Line X) (t : Timers) (before mem : List ℕ)
@@ -56,7 +56,7 @@ module _ {X : Type 0} (whole rest : X → Entries) (l m : Line X) (t : Timers) (
     own_numbers : both.numbers ≡ record { number = l.number; count = l.count }
     own_numbers =
         let q = subst (λ f. Replies (rest both.mid.plan) (state_of both.mid) f
-        (answer.Claimed both.numbers))
+        (Ok (answer.Claimed both.numbers)))
         claimed_as both.claimed.answered in
         let number = ap (λ (st : State). st.number) mid_state in
         let count = ap (λ (st : State). st.count) mid_state in
@@ -82,7 +82,7 @@ module _ {X : Type 0} (whole rest : X → Entries) (l m : Line X) (t : Timers) (
         let first : line ≡ written both.claimed.effect ++ line = rw claimed_as in
         let second : line ≡ written both.booked.effect ++ [] =
         cc (append-nil (written both.booked.effect), booked_line) in
-        let xs = answer.Claimed both.numbers ∷ answer.Booked (length line) ∷ [] in (
+        let xs = Ok (answer.Claimed both.numbers) ∷ Ok (answer.Booked (length line)) ∷ [] in (
           xs,
           line,
           subst (λ cs. DoesAll whole rest l cs xs line m) calls

@@ -1,11 +1,12 @@
 -- What commands print moves to the same entries. Assumes nothing.
-use Rattle.std.proofs.Common.{◌≡◌, ℕ, List, [], ◌∷◌, Ok, subst, inl, inr}
+use Rattle.std.proofs.Common.{◌≡◌, ℕ, List, [], ◌∷◌, Ok, subst, inl, inr, Result}
 use Rattle.keypad.specs.declared.timers.Timers.{Timers}
 use Rattle.keypad.specs.Entries.{Entries}
 use Rattle.keypad.specs.Sets.{Same}
 use Rattle.keypad.proofs.Sames.{remains_same}
 use Rattle.key_record.specs.declared.answer.Answer.{Answer}
 use Rattle.key_record.specs.declared.call.Call.{Call}
+use Rattle.key_record.specs.declared.refusal.Refusal.{Refusal}
 use Rattle.key_record.specs.Record.{Kept, start, remaining}
 use Rattle.key_record.proofs.Moves.{allows_same, replies_same}
 use Rattle.digit_map.specs.declared.map.Map.{Map}
@@ -17,7 +18,7 @@ use Rattle.sale.specs.Sales.{SoldBy}
 use Rattle.sale.specs.Transcripts.{Takes, TakesAll, Orders, Transcript}
 
 module _ (w v : Entries) (h : Same w v) where
-  takes_same : (r : Kept) (c : Call) (x : Answer) (n : Kept) → Takes w r c x n → Takes v r c x n
+  takes_same : (r : Kept) (c : Call) (x : Result Answer Refusal) (n : Kept) → Takes w r c x n → Takes v r c x n
   takes_same r c x n (f, allowed, noted, answered) =
       let i = remains_same w v r.state.dial h in
       let j = remains_same w v n.state.dial h in (
@@ -27,7 +28,7 @@ module _ (w v : Entries) (h : Same w v) where
         replies_same (remaining w n) (remaining v n) n.state (λ _. j) f x answered,
       )
 
-  takes_all_same : (cs : List Call) (xs : List Answer) (r n : Kept) → TakesAll w r cs xs n
+  takes_all_same : (cs : List Call) (xs : List (Result Answer Refusal)) (r n : Kept) → TakesAll w r cs xs n
       → TakesAll v r cs xs n
   takes_all_same [] [] r n f = f
   takes_all_same [] (x ∷ xs) r n f = f

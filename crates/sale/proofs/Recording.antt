@@ -1,9 +1,10 @@
 -- The calls that a command makes are steps of the record that the line follows. Assumes nothing.
-use Rattle.std.proofs.Common.{◌≡◌, ℕ, List, [], ◌∷◌, ◌++◌, Some, None, sym, refl, ap, ◌∙◌, subst, inl, inr, append_assoc, append-nil}
+use Rattle.std.proofs.Common.{◌≡◌, ℕ, List, [], ◌∷◌, ◌++◌, Some, None, sym, refl, ap, ◌∙◌, subst, inl, inr, append_assoc, append-nil, Result}
 use Rattle.keypad.specs.declared.timers.Timers.{Timers}
 use Rattle.keypad.specs.Entries.{Entries}
 use Rattle.key_record.specs.declared.answer.Answer.{Answer}
 use Rattle.key_record.specs.declared.call.Call.{Call}
+use Rattle.key_record.specs.declared.refusal.Refusal.{Refusal}
 use Rattle.key_record.specs.Agreement.{joined}
 use Rattle.key_record.specs.Effects.{Effect, refuses, queues, begins, presses, claims, settles}
 use Rattle.key_record.specs.Record.{Kept, note}
@@ -47,7 +48,7 @@ joined_written (settles (Some l)) ls = refl
 
 module _ {X : Type 0} (whole rest : X → Entries) (w : Entries) where
   -- the record r takes the calls and writes the bytes bs, and the line m follows what it then is
-  record Recorded (r : Kept) (cs : List Call) (xs : List Answer) (bs : List ℕ) (m : Line X) : Type 0 where
+  record Recorded (r : Kept) (cs : List Call) (xs : List (Result Answer Refusal)) (bs : List ℕ) (m : Line X) : Type 0 where
     kept : Kept
     lines : List (List ℕ)
     takes : TakesAll w r cs xs kept
@@ -55,7 +56,7 @@ module _ {X : Type 0} (whole rest : X → Entries) (w : Entries) where
     grown : kept.lines ≡ r.lines ++ lines
     bytes : bs ≡ joined lines
 
-  recorded : (cs : List Call) (xs : List Answer) (l m : Line X) (r : Kept) (bs : List ℕ)
+  recorded : (cs : List Call) (xs : List (Result Answer Refusal)) (l m : Line X) (r : Kept) (bs : List ℕ)
       → Follows whole rest w l r
       → DoesAll whole rest l cs xs bs m → Recorded r cs xs bs m
   recorded [] [] l m r bs f (none, same) = record {

@@ -21,7 +21,7 @@ Printed o before n after = (n ≡ length o) × (after ≡ o ++ drop (length o) b
 
 module _ {X : Type 0} (whole rest : X → Entries) where
   -- calls one after another, with their answers and the bytes that they write
-  abbrev pub DoesAll : Line X → List Call → List Answer → List ℕ → Line X → Type 0
+  abbrev pub DoesAll : Line X → List Call → List (Result Answer Refusal) → List ℕ → Line X → Type 0
   DoesAll l [] [] bs m = (bs ≡ []) × (m ≡ l)
   DoesAll l [] (x ∷ xs) bs m = ⊥
   DoesAll l (c ∷ cs) [] bs m = ⊥
@@ -30,7 +30,7 @@ module _ {X : Type 0} (whole rest : X → Entries) where
 
   -- the command c makes its calls at the line l, which lends n bytes, prints o and leaves the line m
   abbrev pub Gives : Timers → ℕ → Line X → Command → List ℕ → Line X → Type 0
-  Gives t n l c o m = (xs : List Answer) × (more : List ℕ)
+  Gives t n l c o m = (xs : List (Result Answer Refusal)) × (more : List ℕ)
       × DoesAll l (calls_of t n (state_of l) c) xs more m × (o ≡ last_line xs ++ more)
 
   -- and what is printed stands in the memory

@@ -1,9 +1,10 @@
 -- What a list of commands prints, by the record of keys. Assumes nothing.
-use Rattle.std.specs.Prelude.{◌≡◌, ℕ, ◌⊎◌, List, [], ◌∷◌, ◌++◌}
+use Rattle.std.specs.Prelude.{◌≡◌, ℕ, ◌⊎◌, List, [], ◌∷◌, ◌++◌, Result}
 use Rattle.keypad.specs.declared.timers.Timers.{Timers}
 use Rattle.keypad.specs.Entries.{Entries}
 use Rattle.key_record.specs.declared.answer.Answer.{Answer}
 use Rattle.key_record.specs.declared.call.Call.{Call}
+use Rattle.key_record.specs.declared.refusal.Refusal.{Refusal}
 use Rattle.key_record.specs.Agreement.{joined}
 use Rattle.key_record.specs.Effects.{Effect, Replies}
 use Rattle.key_record.specs.Record.{Kept, note, remaining}
@@ -14,12 +15,12 @@ use Rattle.commands.specs.Written.{Writes}
 use Rattle.sale.specs.Commands.{calls_of, last_line}
 
 -- one call, its answer and the record after it
-abbrev pub Takes : Entries → Kept → Call → Answer → Kept → Type 0
+abbrev pub Takes : Entries → Kept → Call → Result Answer Refusal → Kept → Type 0
 Takes w r c x n = (f : Effect) × Allows r.state w (remaining w r) c f × (n ≡ note r f)
     × Replies (remaining w n) n.state f x
 
 -- calls in order, with their answers
-abbrev pub TakesAll : Entries → Kept → List Call → List Answer → Kept → Type 0
+abbrev pub TakesAll : Entries → Kept → List Call → List (Result Answer Refusal) → Kept → Type 0
 TakesAll w r [] [] n = n ≡ r
 TakesAll w r [] (x ∷ xs) n = ⊥
 TakesAll w r (c ∷ cs) [] n = ⊥
@@ -29,7 +30,7 @@ TakesAll w r (c ∷ cs) (x ∷ xs) n = (m : Kept) × Takes w r c x m × TakesAll
 -- written
 abbrev pub Orders : Entries → Timers → Kept → List ℕ → List ℕ → Kept → Type 0
 Orders w t r bs o n = (((c : Command) → Writes bs c → ⊥) × (o ≡ no_line unreadable_number) × (n ≡ r))
-    ⊎ ((c : Command) × Writes bs c × (xs : List Answer) × (ls : List (List ℕ))
+    ⊎ ((c : Command) × Writes bs c × (xs : List (Result Answer Refusal)) × (ls : List (List ℕ))
     × TakesAll w r (calls_of t 85 r.state c) xs n × (n.lines ≡ r.lines ++ ls) ×
     (o ≡ last_line xs ++ joined ls))
 

@@ -1,5 +1,5 @@
 -- Calls played on a record of keys, by facts. Assumes nothing.
-use Rattle.std.proofs.Common.{List, [], ◌∷◌, length, Some, None, refl}
+use Rattle.std.proofs.Common.{List, [], ◌∷◌, length, Some, None, refl, Ok, Err, Result}
 use Rattle.keypad.specs.declared.key.Symbol.{Symbol}
 use Rattle.keypad.specs.Entries.{Entries}
 use Rattle.keypad.specs.Sets.{Remains}
@@ -9,6 +9,7 @@ use Rattle.key_record.specs.declared.answer.Progress.TheVariants.{Done, Wait, Ah
 use Rattle.key_record.specs.declared.answer.Reply.{Reply}
 use Rattle.key_record.specs.declared.call.Call.{Call}
 use Rattle.key_record.specs.declared.call.Call.TheVariants as call
+use Rattle.key_record.specs.declared.refusal.Refusal.{Refusal}
 use Rattle.key_record.specs.Turns.{Outcome, still, over}
 use Rattle.key_record.specs.States.{State}
 use Rattle.key_record.specs.Effects.{Effect, refuses, queues, begins, presses, claims, settles}
@@ -29,18 +30,18 @@ effect m st (call.Book r n) = settling st r st.phase (booking st n)
 effect m st (call.Waive r) = settling st r st.phase (λ e. settles None)
 
 -- the answers, the facts being of what remains after the call
-abbrev pub progress : Facts → State → Outcome → Answer
-progress k st (still p t) = say.Moved (Wait (running st k))
-progress k st (over o) = say.Moved Done
+abbrev pub progress : Facts → State → Outcome → Result Answer Refusal
+progress k st (still p t) = Ok (say.Moved (Wait (running st k)))
+progress k st (over o) = Ok (say.Moved Done)
 
-abbrev pub answer : Facts → State → Effect → Answer
-answer k st (refuses why) = say.Refused why
-answer k st (queues e) = say.Moved (Ahead (length st.ahead))
+abbrev pub answer : Facts → State → Effect → Result Answer Refusal
+answer k st (refuses why) = Err why
+answer k st (queues e) = Ok (say.Moved (Ahead (length st.ahead)))
 answer k st (begins s out) = progress k st out
 answer k st (presses out) = progress k st out
-answer k st (claims e) = say.Claimed (record { number = st.number; count = st.count })
-answer k st (settles None) = say.Waived
-answer k st (settles (Some l)) = say.Booked (length l)
+answer k st (claims e) = Ok (say.Claimed (record { number = st.number; count = st.count }))
+answer k st (settles None) = Ok say.Waived
+answer k st (settles (Some l)) = Ok (say.Booked (length l))
 
 abbrev pub reply : Facts → State → Effect → Reply
 reply k st f = record { answer = answer k st f; timer = running st k }

@@ -1,5 +1,5 @@
 -- What it means that a case holds. Assumes nothing.
-use Rattle.std.specs.Prelude.{◌≡◌, ℕ, List, [], ◌∷◌, Some, None, Option}
+use Rattle.std.specs.Prelude.{◌≡◌, ℕ, List, [], ◌∷◌, Some, None, Option, Ok, Result}
 use Rattle.keypad.specs.declared.timers.Timers.{Timers}
 use Rattle.digit_map.specs.declared.node.Node.{Node}
 use Rattle.digit_map.specs.Derives.{Derives, FaultOf}
@@ -10,13 +10,14 @@ use Rattle.key_record.specs.declared.answer.Progress.TheVariants.{Done, Wait}
 use Rattle.key_record.specs.declared.answer.Reply.{Reply}
 use Rattle.key_record.specs.declared.call.Call.{Call}
 use Rattle.key_record.specs.declared.call.Call.TheVariants.{Arm}
+use Rattle.key_record.specs.declared.refusal.Refusal.{Refusal}
 use Rattle.key_record.specs.declared.settings.Settings.{Settings}
 use Rattle.key_record.specs.Letters.{report_line}
 use Rattle.key_record.specs.Record.{Told, Kept, start, Runs}
 use Rattle.sale_cases.specs.Rows.{Expected, faulty, waits, reports, Row, sale_rows}
 
 -- the last of the replies, by its answer, and behind it the given one if there is none
-abbrev pub last_answer : Option Answer → List Reply → Option Answer
+abbrev pub last_answer : Option (Result Answer Refusal) → List Reply → Option (Result Answer Refusal)
 last_answer o [] = o
 last_answer o (x ∷ xs) = last_answer (Some x.answer) xs
 
@@ -35,8 +36,8 @@ calls_of r t = Arm (settings_of r t) ∷ r.calls
 -- replies and a record of keys are as expected
 abbrev pub Fits : Expected → List Reply → Kept → Type 0
 Fits (faulty f) xs n = ⊥
-Fits (waits t s) xs n = last_answer None xs ≡ Some (Moved (Wait (Some (t, s))))
-Fits (reports l) xs n = (last_answer None xs ≡ Some (Moved Done)) × (last_line None n.reports ≡ Some l)
+Fits (waits t s) xs n = last_answer None xs ≡ Some (Ok (Moved (Wait (Some (t, s)))))
+Fits (reports l) xs n = (last_answer None xs ≡ Some (Ok (Moved Done))) × (last_line None n.reports ≡ Some l)
 
 -- the text stands for a map, and the calls of line 1 over the map's entries have a run that is as expected
 pub record Walks (r : Row) : Type 0 where

@@ -177,7 +177,7 @@ impl<P: Plan> Line<P> {
         requires lawful { Lawful settings.timers }
         requires few { self.old.count < 999999 }
         ensures { Does P.Plan.whole P.Plan.rest self.old (Call.Arm settings)
-            (Answer.Moved result) self.new }
+            (Ok (Answer.Moved result)) self.new }
     {
         self.settings = settings;
         self.plan.rewind();

@@ -3,7 +3,6 @@ ghost use Rattle.std.specs.Prelude.{◌≡◌, ◌+◌, ◌≤◌, length, vec_l
 ghost use Rattle.key_record.specs.Agreement.{Recorded};
 ghost use Rattle.keypad.specs.Sets.{Same};
 ghost use Rattle.line_parts.specs.Dialled.{dialled};
-ghost use Rattle.line.specs.Does.{moved};
 ghost use Rattle.line.specs.Plays.{Called, Noted, played_shown};
 ghost use Rattle.line.specs.Reports.{Brings};
 ghost use Rattle.line.specs.Rooms.{Blank, Room};
@@ -17,71 +16,57 @@ use key_record::refusal::Refusal;
 use keypad::plan::Plan;
 use line_parts::report::Report;
 
-// A result as an answer.
-fn answer_of(res: Result<Progress, Refusal>) -> Answer
-    ensures { result ≡ moved res }
+// The refusal of a settlement, its receipt taken apart.
+fn refused(back: (Refusal, Receipt)) -> Refusal
+    ensures { result ≡ back.0 }
 {
-    match res {
-        Ok(progress) => Answer::Moved(progress),
-        Err(refusal) => Answer::Refused(refusal),
-    }
+    let (refusal, receipt) = back;
+    let _ = receipt.spend();
+    refusal
 }
 
 impl<P: Plan> Played<P> {
     // Books by plain numbers. No more than 85 bytes are lent, since no report line is longer.
-    fn book(&mut self, numbers: Numbers, length: usize) -> Answer
+    fn book(&mut self, numbers: Numbers, length: usize) -> Result<Answer, Refusal>
         requires { vec_len self.old.log.lines + 85 ≤ vec_capacity self.old.log.lines }
         ensures { Called P.Plan.whole P.Plan.rest self.old
             (Call.Book numbers length) result self.new }
     {
         let mut memory = [0; 85];
         let lent = length.min(85);
-        match self.line.book(Receipt::with(numbers), &mut memory[0..lent]) {
-            Ok(written) => {
-                let _ = self.log.lines.extend_from_slice(&memory[0..written]);
-                Answer::Booked(written)
-            }
-            Err((refusal, receipt)) => {
-                let _ = receipt.spend();
-                Answer::Refused(refusal)
-            }
-        }
+        let booked = self.line.book(Receipt::with(numbers), &mut memory[0..lent]);
+        let written = booked.map_err(refused)?;
+        let _ = self.log.lines.extend_from_slice(&memory[0..written]);
+        Ok(Answer::Booked(written))
     }
 
     // Waives by plain numbers.
-    fn waive(&mut self, numbers: Numbers) -> Answer
+    fn waive(&mut self, numbers: Numbers) -> Result<Answer, Refusal>
         ensures { Called P.Plan.whole P.Plan.rest self.old (Call.Waive numbers) result
             self.new }
     {
-        match self.line.waive(Receipt::with(numbers)) {
-            Ok(()) => Answer::Waived,
-            Err((refusal, receipt)) => {
-                let _ = receipt.spend();
-                Answer::Refused(refusal)
-            }
-        }
+        self.line.waive(Receipt::with(numbers)).map_err(refused)?;
+        Ok(Answer::Waived)
     }
 
     // Claims, and takes the receipt apart.
-    fn claim(&mut self) -> Answer
+    fn claim(&mut self) -> Result<Answer, Refusal>
         ensures { Called P.Plan.whole P.Plan.rest self.old Call.Claim result
             self.new }
     {
-        match self.line.claim() {
-            Ok(receipt) => Answer::Claimed(receipt.spend()),
-            Err(refusal) => Answer::Refused(refusal),
-        }
+        let receipt = self.line.claim()?;
+        Ok(Answer::Claimed(receipt.spend()))
     }
 
     // One call, with the bytes that it wrote.
-    fn call(&mut self, call: Call) -> Answer
+    fn call(&mut self, call: Call) -> Result<Answer, Refusal>
         requires { vec_len self.old.log.lines + 85 ≤ vec_capacity self.old.log.lines }
         ensures { Called P.Plan.whole P.Plan.rest self.old call result self.new }
     {
         match call {
-            Call::Arm(settings) => answer_of(self.line.arm(settings)),
-            Call::Key(event) => answer_of(self.line.key(event.key, event.tenths)),
-            Call::Expire(timer) => answer_of(self.line.expire(timer)),
+            Call::Arm(settings) => self.line.arm(settings).map(Answer::Moved),
+            Call::Key(event) => self.line.key(event.key, event.tenths).map(Answer::Moved),
+            Call::Expire(timer) => self.line.expire(timer).map(Answer::Moved),
             Call::Claim => self.claim(),
             Call::Book(numbers, length) => self.book(numbers, length),
             Call::Waive(numbers) => self.waive(numbers),
@@ -89,12 +74,12 @@ impl<P: Plan> Played<P> {
     }
 
     // The report that an answer brought, if it brought one.
-    fn report_of(&self, answer: Answer) -> Option<Report>
+    fn report_of(&self, answer: Result<Answer, Refusal>) -> Option<Report>
         ensures { Brings answer self.now.line.phase
             (dialled self.now.line.dial) result }
     {
         match answer {
-            Answer::Moved(Progress::Done) => self.line.report(),
+            Ok(Answer::Moved(Progress::Done)) => self.line.report(),
             _ => None,
         }
     }
