@@ -1,6 +1,6 @@
 -- The keys ahead are fed to an entry, one after another. Assumes nothing.
-use Rattle.std.proofs.Common.{◌≡◌, ℕ, ◌+◌, ◌<◌, ◌≤◌, List, [], ◌∷◌, ◌++◌, length, take, drop, None, refl, ap, ◌∙◌, subst, arith}
-use Rattle.std.proofs.lemmas.List.{length-drop, take-append-drop, take_more, drop_more}
+use Rattle.std.proofs.Common.{◌≡◌, ℕ, ◌+◌, ◌<◌, ◌≤◌, List, [], ◌∷◌, ◌++◌, length, get_or, take, drop, None, refl, ap, ◌∙◌, subst, arith}
+use Rattle.std.proofs.lemmas.List.{length-drop, take-append-drop, take_more, drop_more, drop_all}
 use Rattle.keypad.specs.declared.key.KeyEvent.{KeyEvent}
 use Rattle.keypad.specs.declared.key.Symbol.{Symbol}
 use Rattle.keypad.specs.Entries.{Entries}
@@ -97,6 +97,19 @@ module _ {X : Type 0} (whole rest : X → Entries) where
         let ahead = ap (λ (st : State). st.ahead) f.state in
         let all = take-append-drop fed (queued m.ahead) in
         feeding_on ks (queued l.ahead) out (cc)
+
+    -- the keys ks are those ahead, of which the line now has the same: the next of them, and the end
+    module _ (ks : List KeyEvent) (same : ks ≡ queued l.ahead) where
+      now : ks ≡ queued m.ahead
+      now = let ahead = ap (λ (st : State). st.ahead) f.state in cc
+
+      pub feeding_next : (d : KeyEvent) → fed < length ks
+          → drop fed (queued m.ahead) ≡ get_or ks fed d ∷ drop (fed + 1) (queued m.ahead)
+      feeding_next d here =
+          subst (λ q. drop fed q ≡ get_or ks fed d ∷ drop (fed + 1) q) now (drop_more ks fed d here)
+
+      pub feeding_all : length ks ≤ fed → drop fed (queued m.ahead) ≡ []
+      feeding_all past = subst (λ q. drop fed q ≡ []) now (drop_all fed ks past)
 
     module _ (k : KeyEvent) (at : drop fed (queued m.ahead) ≡ k ∷ drop (fed + 1) (queued m.ahead)) where
       -- each key before it has at most two characters

@@ -182,15 +182,14 @@ impl<P: Plan> Line<P> {
         self.settings = settings;
         self.plan.rewind();
         self.dial = Dial::new();
-        let mut fed = 0;
-        while let Some(event) = self.ahead.at(fed) {
-            if let Some(ending) = self.process(event) {
+        let ahead = self.ahead;
+        for (fed, event) in ahead.events().iter().enumerate() {
+            if let Some(ending) = self.process(*event) {
                 let kept = self.keeps_last(ending);
                 self.ahead.discard(if kept { fed } else { fed + 1 });
                 self.finish(ending);
                 return Progress::Done;
             }
-            fed += 1;
         }
         self.ahead = Ahead::new();
         self.phase = Phase::Open;

@@ -5,25 +5,22 @@ use Rattle.key_record.specs.States.{with_phase, with_ahead}
 use Rattle.line_parts.specs.Queued.{queued}
 use Rattle.line.specs.Lines.{state_of}
 use Rattle.line.specs.Processed.{finished}
-use Rattle.line.proofs.Feeding.{length_dropped, ahead_within, feeding_none, feeding_fits, feeding_more}
+use Rattle.line.proofs.Feeding.{length_dropped, feeding_none, feeding_next, feeding_all, feeding_fits, feeding_more}
 use Rattle.line.proofs.Arming.{arming_opens, arming_ends}
 use Rattle.line.proofs.line.Line.begin.Goals.{then-kept, else-kept}
 use Rattle.line.proofs.line.Line.begin.Goals as goal
 
-pub loop-event-init : goal.loop-event-init
-loop-event-init g c = feeding_none g.P.Plan.whole g.P.Plan.rest _ c.new-self.ensures
+pub loop-fed-init : goal.loop-fed-init
+loop-fed-init g c = feeding_none g.P.Plan.whole g.P.Plan.rest _ c.new-self.ensures
 
 pub process-requires : goal.process-requires
 process-requires g c =
-    feeding_fits g.P.Plan.whole g.P.Plan.rest _ _ _ c.loop-event.invariant _ c.in-Some.ensures
+    feeding_fits g.P.Plan.whole g.P.Plan.rest _ _ _ c.loop-fed.invariant _
+    (feeding_next g.P.Plan.whole g.P.Plan.rest _ _ _ c.loop-fed.invariant _
+    c.events-event-items.ensures _ c.loop-fed-test.true)
 
-pub overflow_add-fed : goal.overflow_add-fed
-overflow_add-fed g c =
-    let h = ahead_within c.loop-event.self.ahead c.loop-event.fed _ c.in-Some.ensures in
-    omega arith
-
-pub invariant_of-self-in-Some-process : goal.invariant_of-self-in-Some-process
-invariant_of-self-in-Some-process g c =
+pub invariant_of-self-in-Some : goal.invariant_of-self-in-Some
+invariant_of-self-in-Some g c =
     let n = c.process.new.self in
     let off = c.if-kept.discard in
     record {
@@ -33,52 +30,45 @@ invariant_of-self-in-Some-process g c =
 
 pub finish-requires : goal.finish-requires
 finish-requires g c =
-    let m = ap (λ st. st.count) c.loop-event.invariant.state in
+    let m = ap (λ st. st.count) c.loop-fed.invariant.state in
     let n = ap (λ st. st.count) c.process.ensures.state in
     let few = c.requires.few in
     omega arith
 
-pub returns-in-Some-process : goal.returns-in-Some-process
-returns-in-Some-process g c =
+pub returns-in-Some : goal.returns-in-Some
+returns-in-Some g c =
     let n = c.process.new.self in
-    let fed = c.loop-event.fed in
-    let e = c.in-Some-process.ending in
+    let fed = c.loop-fed.fed in
+    let e = c.in-Some.ending in
     arming_ends g.P.Plan.whole g.P.Plan.rest c.args.self.now _ c.requires.phase c.requires.lawful
-    c.requires.few refl c.rewind.ensures.whole c.rewind.ensures.rest c.loop-event.self fed
-    c.loop-event.invariant n _ c.in-Some.event e c.if-kept.discard c.in-Some.ensures
-    c.in-Some-process.ensures (elim c.if-kept.branch [
+    c.requires.few refl c.rewind.ensures.whole c.rewind.ensures.rest c.loop-fed.self fed
+    c.loop-fed.invariant n _ _ e c.if-kept.discard
+    (feeding_next g.P.Plan.whole g.P.Plan.rest _ _ _ c.loop-fed.invariant _
+    c.events-event-items.ensures _ c.loop-fed-test.true)
+    c.in-Some.ensures (elim c.if-kept.branch [
       | then-kept w ↦ w.discard-is ∙ ap (λ q. cond q fed (fed + 1)) w.if-kept.ensures
       | else-kept w ↦ w.discard-is ∙ ap (λ q. cond q fed (fed + 1)) w.if-kept.ensures
     ]) c.finish.ensures.plan
     (c.finish.ensures.state ∙ ap (λ q. finished (with_ahead (state_of n) q) e) c.discard.ensures)
 
-pub overflow_add-fed-in-Some : goal.overflow_add-fed-in-Some
-overflow_add-fed-in-Some g c =
-    let h = ahead_within c.loop-event.self.ahead c.loop-event.fed _ c.in-Some.ensures in
-    omega arith
-
-pub loop-event-smaller : goal.loop-event-smaller
-loop-event-smaller g c =
-    let h = ahead_within c.loop-event.self.ahead c.loop-event.fed _ c.in-Some.ensures in
-    let e = ap (λ st. length st.ahead) c.process.ensures.state in
-    omega arith
-
-pub loop-event-preserved : goal.loop-event-preserved
-loop-event-preserved g c =
-    feeding_more g.P.Plan.whole g.P.Plan.rest _ _ _ c.loop-event.invariant _ c.in-Some.ensures _
-    c.in_default-process.ensures
+pub loop-fed-preserved : goal.loop-fed-preserved
+loop-fed-preserved g c =
+    feeding_more g.P.Plan.whole g.P.Plan.rest _ _ _ c.loop-fed.invariant _
+    (feeding_next g.P.Plan.whole g.P.Plan.rest _ _ _ c.loop-fed.invariant _
+    c.events-event-items.ensures _ c.loop-fed-test.true) _ c.in_default.ensures
 
 pub invariant_of-self-2 : goal.invariant_of-self-2
 invariant_of-self-2 g c =
-    let m = ap (λ st. st.count) c.loop-event.invariant.state in
+    let m = ap (λ st. st.count) c.loop-fed.invariant.state in
     let few = c.requires.few in
     let e = ap length c.new-self-2.ensures in
     record { few = omega arith; clear = omega arith }
 
 pub returns : goal.returns
 returns g c =
-    let m = c.loop-event.self in
+    let m = c.loop-fed.self in
     arming_opens g.P.Plan.whole g.P.Plan.rest c.args.self.now _ c.requires.phase c.requires.lawful
-    c.requires.few refl c.rewind.ensures.whole c.rewind.ensures.rest m _ c.loop-event.invariant _
-    c.timer.result c.in_default.ensures refl
+    c.requires.few refl c.rewind.ensures.whole c.rewind.ensures.rest m _ c.loop-fed.invariant _
+    c.timer.result (feeding_all g.P.Plan.whole g.P.Plan.rest _ _ _ c.loop-fed.invariant _
+    c.events-event-items.ensures c.loop-fed-test.false) refl
     (ap (λ q. with_phase (with_ahead (state_of m) q) Open) c.new-self-2.ensures) c.timer.ensures
