@@ -1,5 +1,5 @@
 -- What a claim that was answered tells, and that its booking is then not refused. Assumes nothing.
-use Rattle.std.proofs.Common.{◌≡◌, ℕ, ◌≤◌, List, length, Some, Ok, Err, Result, sym, ap, subst, inl, inr, arith}
+use Rattle.std.proofs.Common.{◌≡◌, ℕ, ◌≤◌, List, length, Some, Ok, Err, IsOk, Result, refl, sym, ap, subst, inl, inr, arith}
 use Rattle.keypad.specs.Entries.{Entries}
 use Rattle.key_record.specs.declared.answer.Answer.TheVariants as answer
 use Rattle.key_record.specs.declared.call.Call.TheVariants.{Claim, Book}
@@ -74,11 +74,12 @@ module _ {X : Type 0} (whole rest : X → Entries) (l mid m : Line X) (r : Recei
       settled (state_of l) (state_of mid) (numbers_of r) claim_handed (length before) b.does.effect
       (report_length (dialled mid.dial) claim_handed.ending (omega arith)) room b.does.allowed
 
-  pub book_accepted : (e : Refusal × Receipt) → Booked whole rest mid r before (Err e) m mem → ⊥
-  book_accepted e b =
+  pub book_accepted : (x : Result ℕ (Refusal × Receipt)) → Booked whole rest mid r before x m mem → IsOk x
+  book_accepted (Ok k) b = refl
+  book_accepted (Err e) b =
       let q = subst (λ f. Replies (rest m.plan) (state_of m) f (Err e.0))
       (book_settles (Err e) b) b.does.answered in
-      let z : ◌≡◌ {A = ℕ} 0 1 = cc in omega arith
+      absurd (let z : ◌≡◌ {A = ℕ} 0 1 = cc in omega arith)
 
   pub closed : (k : ℕ) → Booked whole rest mid r before (Ok k) m mem → Closes whole rest l before m mem (Ok k)
   closed k b =

@@ -1,10 +1,11 @@
 -- One key fed to the entry of a line, by what pressing it told. Assumes nothing.
-use Rattle.std.proofs.Common.{◌≡◌, ◌+◌, Bool, cond, leb, List, [], ◌∷◌, ◌++◌, Some, None, Option, sym, refl, ap, ◌∙◌, subst, append-nil}
+use Rattle.std.proofs.Common.{◌≡◌, ◌+◌, Bool, cond, leb, List, [], ◌∷◌, ◌++◌, Some, None, MatchOption, IsSomeAnd, Option, sym, refl, ap, ◌∙◌, subst, append-nil}
 use Rattle.std.proofs.lemmas.Bool.{cond-true, le-leb}
 use Rattle.keypad.specs.declared.key.KeyEvent.{KeyEvent}
 use Rattle.keypad.specs.declared.key.Symbol.{Symbol}
 use Rattle.keypad.specs.Entries.{Entries}
 use Rattle.keypad.specs.Sets.{Same, After}
+use Rattle.key_record.specs.declared.ending.Ending.{Ending}
 use Rattle.key_record.specs.declared.ending.Method.{Method}
 use Rattle.key_record.specs.declared.ending.Trigger.TheVariants as trigger
 use Rattle.key_record.specs.Dials.{width, chars}
@@ -76,6 +77,16 @@ module _ {X : Type 0} (whole rest : X → Entries) (l : Line X) (k : KeyEvent) (
       same = same;
       remains = left;
     }
+
+    -- the method that it is judged by, if there is one, makes the ending
+    pub processed_judged : {P : Method → Ending → Type 0} (r : Option Method)
+        → Judged l.settings.procedure (rest m.plan) r → (x : Option Ending)
+        → MatchOption r (x ≡ None) (λ method. IsSomeAnd x (λ e. P method e))
+        → ((method : Method) (e : Ending) → P method e → e ≡ record { method = method; trigger = trigger.Press })
+        → Processed whole rest l k x m
+    processed_judged None judged x h made = rw h (processed_on judged)
+    processed_judged (Some method) judged None h made = absurd h
+    processed_judged (Some method) judged (Some e) h made = rw (made method e h) (processed_last method judged)
 
   -- it was not pressed
   pub processed_extra : Chosen (rest l.plan) long k.key None → (state_of m).dial ≡ (state_of l).dial

@@ -65,6 +65,16 @@ impl<P: Plan> Line<P> {
         }
     }
 
+    // The numbers of the receipt that the line hands out.
+    fn numbers(&self) -> Numbers
+        ensures { result ≡ record { number = self.now.number; count = self.now.count } }
+    {
+        Numbers {
+            number: self.number,
+            count: self.count,
+        }
+    }
+
     // Hands out the receipt of a report.
     pub fn claim(&mut self) -> Result<Receipt, Refusal>
         ensures { Does P.Plan.whole P.Plan.rest self.old Call.Claim (handed result)
@@ -73,10 +83,7 @@ impl<P: Plan> Line<P> {
         match self.phase {
             Phase::Done(ending) => {
                 self.phase = Phase::Claimed(ending);
-                Ok(Receipt::with(Numbers {
-                    number: self.number,
-                    count: self.count,
-                }))
+                Ok(Receipt::with(self.numbers()))
             }
             _ => Err(Refusal::NotDone),
         }
@@ -87,13 +94,7 @@ impl<P: Plan> Line<P> {
         ensures { Presented (state_of self.now) numbers result }
     {
         match self.phase {
-            Phase::Claimed(ending) => {
-                if numbers.number == self.number && numbers.count == self.count {
-                    Some(ending)
-                } else {
-                    None
-                }
-            }
+            Phase::Claimed(ending) => (numbers == self.numbers()).then_some(ending),
             _ => None,
         }
     }

@@ -16,9 +16,6 @@ impl<P: Plan> Line<P> {
             return Err(Refusal::Memory);
         }
         let receipt = self.claim()?;
-        match self.book(receipt, memory) {
-            Ok(written) => Ok(written),
-            Err(_) => unreachable(),
-        }
+        Ok(self.book(receipt, memory).unwrap())
     }
 }

@@ -39,13 +39,10 @@ impl<P: Plan> Line<P> {
         match press_key(&mut self.plan, long, event.key) {
             Some(symbol) => {
                 self.dial.push(symbol);
-                match judged(&self.plan, self.settings.procedure) {
-                    Some(method) => Some(Ending {
-                        method,
-                        trigger: Trigger::Press,
-                    }),
-                    None => None,
-                }
+                judged(&self.plan, self.settings.procedure).map(|method| Ending {
+                    method,
+                    trigger: Trigger::Press,
+                })
             }
             None => {
                 let symbol = extra(&self.plan, long, event.key);
@@ -61,10 +58,10 @@ impl<P: Plan> Line<P> {
     fn keeps_last(&self, ending: Ending) -> bool
         ensures { result ≡ keeps self.now.settings.disposition ending.trigger }
     {
-        match (ending.trigger, self.settings.disposition) {
-            (Trigger::Extra(_), Disposition::Keep) => true,
-            _ => false,
-        }
+        matches!(
+            (ending.trigger, self.settings.disposition),
+            (Trigger::Extra(_), Disposition::Keep)
+        )
     }
 
     // The entry is over, and the line has brought one report more.
@@ -88,10 +85,9 @@ impl<P: Plan> Line<P> {
         if self.dial.takes(Symbol::Long(event.key)) {
             return false;
         }
-        match chosen(&self.plan, self.is_held_long(event), event.key) {
-            Some(symbol) => !self.dial.takes(symbol),
-            None => false,
-        }
+        chosen(&self.plan, self.is_held_long(event), event.key).is_some_and(|symbol| !self
+            .dial
+            .takes(symbol))
     }
 
     // A key of an open line.

@@ -60,10 +60,7 @@ impl<P> Line<P> {
     pub fn open_entry(&self) -> Option<Dial>
         ensures { dialled_in result ≡ open_dial (state_of self.now) }
     {
-        match self.phase {
-            Phase::Open => Some(self.dial),
-            _ => None,
-        }
+        (self.phase == Phase::Open).then_some(self.dial)
     }
 
     // The keys ahead.
