@@ -1,19 +1,10 @@
-ghost use Rattle.std.specs.Prelude.{◌≤◌, vec_len};
-
-use crate::play::reserve::Reserve;
-use key_record::call::Call;
+use crate::play::Side;
 
 pub mod compare;
 
-// Two plans with a list of calls for each, and room for what lines over them answer, report and write.
+// Two plans with a list of calls for each, to be played on two lines with one number.
 pub struct Comparison<P, Q> {
     number: u32,
-    first: P,
-    second: Q,
-    calls: Vec<Call>,
-    others: Vec<Call>,
-    reserve: Reserve,
-    other_reserve: Reserve,
-    ghost room: { vec_len calls ≤ reserve.calls },
-    ghost other_room: { vec_len others ≤ other_reserve.calls },
+    first: Side<P>,
+    second: Side<Q>,
 }

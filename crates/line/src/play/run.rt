@@ -5,10 +5,10 @@ ghost use Rattle.keypad.specs.Sets.{Same};
 ghost use Rattle.line_parts.specs.Dialled.{dialled};
 ghost use Rattle.line.specs.Plays.{Called, Noted, played_shown};
 ghost use Rattle.line.specs.Reports.{Brings};
-ghost use Rattle.line.specs.Rooms.{Blank, Room};
+ghost use Rattle.line.specs.Rooms.{Room};
 
 use crate::line::Line;
-use crate::play::{Log, Played};
+use crate::play::{Played, Side};
 use crate::receipt::Receipt;
 use key_record::answer::{Answer, Progress, Reply};
 use key_record::call::{Call, Numbers};
@@ -98,19 +98,20 @@ impl<P: Plan> Played<P> {
     }
 }
 
-// Plays a list of calls on a line straight from its making.
-pub(crate) fn run<P: Plan>(number: u32, plan: P, calls: &[Call], log: Log) -> Played<P>
-    requires blank { Blank log }
-    requires room { Room log (length calls.now) }
-    ensures recorded { Recorded (P.Plan.whole plan) number calls.now (played_shown result) }
-    ensures whole { Same (P.Plan.whole result.line.plan) (P.Plan.whole plan) }
-{
-    let mut played = Played {
-        line: Line::new(number, plan),
-        log,
-    };
-    for call in calls {
-        played.note(*call);
+impl<P: Plan> Side<P> {
+    // Plays the calls on a line straight from its making.
+    pub(crate) fn play(self, number: u32) -> Played<P>
+        ensures recorded { Recorded (P.Plan.whole self.plan) number self.calls.items (played_shown result) }
+        ensures whole { Same (P.Plan.whole result.line.plan) (P.Plan.whole self.plan) }
+    {
+        let Side { plan, calls, log } = self;
+        let mut played = Played {
+            line: Line::new(number, plan),
+            log,
+        };
+        for call in &calls {
+            played.note(*call);
+        }
+        played
     }
-    played
 }
