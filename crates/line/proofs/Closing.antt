@@ -18,7 +18,6 @@ use Rattle.line.specs.declared.receipt.Receipt.{Receipt}
 use Rattle.line.specs.Closing.{Closed, Closes}
 use Rattle.line.specs.Does.{Does}
 use Rattle.line.specs.Lines.{state_of}
-use Rattle.line.specs.Receipts.{numbers_of}
 use Rattle.line.specs.Settled.{Booked, Writes}
 
 -- the line st was done with the ending, is now claimed as mid, and the numbers are its own
@@ -59,9 +58,9 @@ settled st mid n h room f short long (inr (never, q)) =
     absurd (never (h.ending, phase, ap (λ x. x.number) h.own, ap (λ x. x.count) h.own))
 
 module _ {X : Type 0} (whole rest : X → Entries) (l mid m : Line X) (r : Receipt) (before mem : List ℕ)
-    (room : 85 ≤ length before) (claimed : Does whole rest l Claim (Ok (answer.Claimed (numbers_of r))) mid) where
-  claim_handed : Handed (state_of l) (state_of mid) (numbers_of r)
-  claim_handed = handed (state_of l) (state_of mid) (numbers_of r) (rest mid.plan) claimed.effect
+    (room : 85 ≤ length before) (claimed : Does whole rest l Claim (Ok (answer.Claimed r.numbers)) mid) where
+  claim_handed : Handed (state_of l) (state_of mid) r.numbers
+  claim_handed = handed (state_of l) (state_of mid) r.numbers (rest mid.plan) claimed.effect
       claimed.allowed claimed.state claimed.answered
 
   -- the line of the report that was claimed
@@ -71,7 +70,7 @@ module _ {X : Type 0} (whole rest : X → Entries) (l mid m : Line X) (r : Recei
   book_settles : (x : Result ℕ (Refusal × Receipt)) (b : Booked whole rest mid r before x m mem)
       → b.does.effect ≡ settles (Some line)
   book_settles x b =
-      settled (state_of l) (state_of mid) (numbers_of r) claim_handed (length before) b.does.effect
+      settled (state_of l) (state_of mid) r.numbers claim_handed (length before) b.does.effect
       (report_length (dialled mid.dial) claim_handed.ending (omega arith)) room b.does.allowed
 
   pub book_accepted : (x : Result ℕ (Refusal × Receipt)) → Booked whole rest mid r before x m mem → IsOk x
@@ -86,10 +85,10 @@ module _ {X : Type 0} (whole rest : X → Entries) (l mid m : Line X) (r : Recei
       let s = book_settles (Ok k) b in
       let q = subst (λ f. Replies (rest m.plan) (state_of m) f (Ok (answer.Booked k))) s b.does.answered in
       let n : k ≡ length line = cc in
-      let book = Book (numbers_of r) (length before) in
+      let book = Book r.numbers (length before) in
       let both : Closed whole rest l before line m mem = record {
         mid = mid;
-        numbers = numbers_of r;
+        numbers = r.numbers;
         claimed = claimed;
         booked = subst (λ x. Does whole rest mid book (Ok (answer.Booked x)) m) n b.does;
         memory = subst (λ f. Writes f before mem) s b.memory;

@@ -22,7 +22,6 @@ use Rattle.line.specs.declared.line.Line.{Line}
 use Rattle.line.specs.declared.receipt.Receipt.{Receipt}
 use Rattle.line.specs.Does.{Does}
 use Rattle.line.specs.Lines.{state_of}
-use Rattle.line.specs.Receipts.{numbers_of}
 use Rattle.line.specs.Settled.{Presented, Booked, Waived}
 use Rattle.line.proofs.Refusing.{refusing}
 
@@ -43,9 +42,9 @@ module _ {X : Type 0} (whole rest : X → Entries) (l m : Line X) (kept : m.plan
 
   -- the report of a line that is done is claimed
   pub claiming : (e : Ending) (r : Receipt) → l.phase ≡ Done e
-      → numbers_of r ≡ record { number = m.number; count = m.count }
+      → r.numbers ≡ record { number = m.number; count = m.count }
       → state_of m ≡ with_phase (state_of l) (Claimed e)
-      → Does whole rest l Claim (Ok (answer.Claimed (numbers_of r))) m
+      → Does whole rest l Claim (Ok (answer.Claimed r.numbers)) m
   claiming e r done given state = record {
     effect = claims e;
     allowed = inl ((e, done), refl);
@@ -72,11 +71,11 @@ module _ {X : Type 0} (whole rest : X → Entries) (l m : Line X) (kept : m.plan
     unmoved = λ why u. absurd (let z : ◌≡◌ {A = ℕ} 0 1 = cc in omega arith);
   }
 
-  module _ (r : Receipt) (n : Numbers) (shown : n ≡ numbers_of r)
+  module _ (r : Receipt) (n : Numbers) (shown : n ≡ r.numbers)
       (state : state_of m ≡ with_phase (state_of l) Idle) where
     pub waived : Presents (state_of l) n → Waived whole rest l r (Ok tt) m
     waived p = record {
-      does = settling (Waive (numbers_of r)) None (Ok answer.Waived)
+      does = settling (Waive r.numbers) None (Ok answer.Waived)
           (inl (subst (Presents (state_of l)) shown p, refl)) state refl;
       back = tt;
     }
@@ -85,7 +84,7 @@ module _ {X : Type 0} (whole rest : X → Entries) (l m : Line X) (kept : m.plan
         → line ≡ report_line (dialled l.dial) e → Laid line before true mem → k ≡ length line
         → Booked whole rest l r before (Ok k) m mem
     booked e line before mem k p text laid long = record {
-      does = settling (Book (numbers_of r) (length before)) (Some (report_line (dialled l.dial) e))
+      does = settling (Book r.numbers (length before)) (Some (report_line (dialled l.dial) e))
           (Ok (answer.Booked k)) (inl (
             subst (Presents (state_of l)) shown (e, p.0, p.1, p.2),
             inl (subst (λ x. length x ≤ length before) text laid.0, refl),
@@ -96,10 +95,10 @@ module _ {X : Type 0} (whole rest : X → Entries) (l m : Line X) (kept : m.plan
     }
 
 module _ {X : Type 0} (whole rest : X → Entries) (l : Line X) (r : Receipt) (n : Numbers)
-    (shown : n ≡ numbers_of r) where
+    (shown : n ≡ r.numbers) where
   pub waive_refused : (Presents (state_of l) n → ⊥) → Waived whole rest l r (Err (refusal.Receipt, r)) l
   waive_refused h = record {
-    does = refusing whole rest l (Waive (numbers_of r)) refusal.Receipt
+    does = refusing whole rest l (Waive r.numbers) refusal.Receipt
         (inr (subst (λ x. (Presents (state_of l) x → ⊥)) shown h, refl));
     back = refl;
   }
@@ -107,7 +106,7 @@ module _ {X : Type 0} (whole rest : X → Entries) (l : Line X) (r : Receipt) (n
   pub book_refused : (before : List ℕ) → (Presents (state_of l) n → ⊥)
       → Booked whole rest l r before (Err (refusal.Receipt, r)) l before
   book_refused before h = record {
-    does = refusing whole rest l (Book (numbers_of r) (length before)) refusal.Receipt
+    does = refusing whole rest l (Book r.numbers (length before)) refusal.Receipt
         (inr (subst (λ x. (Presents (state_of l) x → ⊥)) shown h, refl));
     memory = refl;
     back = refl;
@@ -118,7 +117,7 @@ module _ {X : Type 0} (whole rest : X → Entries) (l : Line X) (r : Receipt) (n
       → line ≡ report_line (dialled l.dial) e → Laid line before false mem
       → Booked whole rest l r before (Err (refusal.Memory, r)) l mem
   book_short e line before mem p text laid = record {
-    does = refusing whole rest l (Book (numbers_of r) (length before)) refusal.Memory
+    does = refusing whole rest l (Book r.numbers (length before)) refusal.Memory
         (inl (
           subst (Presents (state_of l)) shown (e, p.0, p.1, p.2),
           inr (λ h. let z = ap length text in omega arith, refl),

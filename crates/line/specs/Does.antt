@@ -15,7 +15,6 @@ use Rattle.line.specs.declared.line.calls.Input.{Input}
 use Rattle.line.specs.declared.line.calls.Input.TheVariants as input
 use Rattle.line.specs.declared.receipt.Receipt.{Receipt}
 use Rattle.line.specs.Lines.{state_of}
-use Rattle.line.specs.Receipts.{numbers_of}
 
 -- the call c has an effect that the rules allow at the line l; x is its answer and m the line after it. The
 -- plan keeps its whole and has taken the symbols that the effect pressed; a refused call leaves the line as
@@ -37,7 +36,7 @@ moved (Ok p) = Ok (Moved p)
 moved (Err why) = Err why
 
 abbrev pub handed : Result Receipt Refusal → Result Answer Refusal
-handed (Ok r) = Ok (Claimed (numbers_of r))
+handed (Ok r) = Ok (Claimed r.numbers)
 handed (Err why) = Err why
 
 abbrev pub call_of : Input → Call

@@ -1,5 +1,4 @@
 pub mod Limits
-pub mod Receipts
 pub mod Lines
 pub mod Reports
 pub mod Does

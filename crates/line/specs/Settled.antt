@@ -14,7 +14,6 @@ use Rattle.key_record.specs.States.{State}
 use Rattle.line.specs.declared.line.Line.{Line}
 use Rattle.line.specs.declared.receipt.Receipt.{Receipt}
 use Rattle.line.specs.Does.{Does}
-use Rattle.line.specs.Receipts.{numbers_of}
 
 -- the ending of the report that the numbers claim, or none if they claim none
 abbrev pub Presented : State → Numbers → Option Ending → Type 0
@@ -47,11 +46,11 @@ Writes (settles (Some l)) before after = after ≡ l ++ drop (length l) before
 
 pub record Booked {X : Type 0} (whole rest : X → Entries) (l : Line X) (r : Receipt) (before : List ℕ)
     (x : Result ℕ (Refusal × Receipt)) (m : Line X) (after : List ℕ) : Type 0 where
-  pub does : Does whole rest l (Book (numbers_of r) (length before)) (book_answer x) m
+  pub does : Does whole rest l (Book r.numbers (length before)) (book_answer x) m
   pub memory : Writes does.effect before after
   pub back : HandedBack r x
 
 pub record Waived {X : Type 0} (whole rest : X → Entries) (l : Line X) (r : Receipt)
     (x : Result (Unit {0}) (Refusal × Receipt)) (m : Line X) : Type 0 where
-  pub does : Does whole rest l (Waive (numbers_of r)) (waive_answer x) m
+  pub does : Does whole rest l (Waive r.numbers) (waive_answer x) m
   pub back : HandedBack r x

@@ -1,40 +1,32 @@
 ghost use Rattle.std.specs.Prelude.{◌≡◌};
-ghost use Rattle.line.specs.Receipts.{numbers_of};
 
 use key_record::call::Numbers;
 
 // What a claim hands out: the line's number and its count of reports. It is spent by booking or waiving the
 // report, and can be neither copied nor let go.
 pub struct Receipt {
-    number: u32,
-    count: u32,
+    numbers: Numbers,
 }
 
 impl Receipt {
     // The receipt with these numbers. Only the line hands one out, and only a list of calls presents one so.
     pub(crate) fn with(numbers: Numbers) -> Receipt
-        ensures { numbers_of result ≡ numbers }
+        ensures { result.numbers ≡ numbers }
     {
-        Receipt {
-            number: numbers.number,
-            count: numbers.count,
-        }
+        Receipt { numbers }
     }
 
     pub fn numbers(&self) -> Numbers
-        ensures { result ≡ numbers_of self.now }
+        ensures { result ≡ self.now.numbers }
     {
-        Numbers {
-            number: self.number,
-            count: self.count,
-        }
+        self.numbers
     }
 
     // Takes the receipt apart.
     pub(crate) fn spend(self) -> Numbers
-        ensures { result ≡ numbers_of self }
+        ensures { result ≡ self.numbers }
     {
-        let Receipt { number, count } = self;
-        Numbers { number, count }
+        let Receipt { numbers } = self;
+        numbers
     }
 }

@@ -3,7 +3,6 @@ ghost use Rattle.std.specs.Prelude.{◌≡◌};
 ghost use Rattle.line.specs.Does.{Does, moved, handed, call_of};
 ghost use Rattle.line.specs.Settled.{Booked, Waived, Presented};
 ghost use Rattle.line.specs.Lines.{state_of};
-ghost use Rattle.line.specs.Receipts.{numbers_of};
 
 use crate::line::Line;
 use crate::receipt::Receipt;
