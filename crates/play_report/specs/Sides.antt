@@ -5,6 +5,8 @@ use Rattle.key_record.specs.Agreement.{Reported, Shown}
 use Rattle.line_parts.specs.declared.report.Report.{Report}
 use Rattle.line_parts.specs.Dialled.{dialled, dialled_in}
 use Rattle.line_parts.specs.Queued.{queued}
+use Rattle.line_parts.specs.declared.text.Text.{Text}
+use Rattle.line_parts.specs.Texts.{text_of}
 use Rattle.play_report.specs.declared.side.Side.{Side}
 use Rattle.play_report.specs.Words.{reply_lines, report_lines_lem, entry_line, ahead_line}
 
@@ -39,3 +41,7 @@ module _ {Z X Y : Type 0} where
   -- where memory did not lack, bs stands behind what stood there before
   abbrev pub Adds : Vec ℕ Z → Result X Y → List ℕ → Vec ℕ Z → Type 0
   Adds before r bs after = is_ok r ≡ true → vec_items after ≡ vec_items before ++ bs
+
+-- each text that P gives of a thing has the words of that thing
+abbrev pub Tells : {X : Type 0} → (X → Text → Type 0) → (X → List ℕ) → Type 0
+Tells {X} P words = (x : X) (t : Text) → P x t → text_of t ≡ words x

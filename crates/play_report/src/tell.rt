@@ -1,12 +1,12 @@
 //! All that a line has shown, as it is told.
 ghost use Rattle.line_parts.specs.Texts.{text_of};
-ghost use Rattle.std.specs.Prelude.{◌≡◌, map, IfOk};
-ghost use Rattle.play_report.specs.Words.{told_all, reply_lines, report_lines_lem, key_words, ahead_line};
-ghost use Rattle.play_report.specs.Sides.{Adds, shown_by, report_by, side_words, verdict_line, sides_words};
+ghost use Rattle.std.specs.Prelude.{◌≡◌, ℕ, List, IfOk};
+ghost use Rattle.std.specs.Fn.{FnReturnsAt};
+ghost use Rattle.play_report.specs.Words.{told_all, ahead_line};
+ghost use Rattle.play_report.specs.Sides.{Adds, Tells, shown_by, side_words, verdict_line, sides_words};
 
 use crate::side::Side;
 use crate::words::{entry_text, key_text, reply_text};
-use key_record::answer::Reply;
 use keypad::key::KeyEvent;
 use line_parts::report::Report;
 use line_parts::text::Text;
@@ -21,33 +21,14 @@ fn add_text(out: &mut Vec<u8>, text: Text) -> Result<(), AllocError>
     out.extend_from_slice(&memory[0..text.len()])
 }
 
-// Adds the line of each reply.
-fn add_replies(out: &mut Vec<u8>, replies: &[Reply]) -> Result<(), AllocError>
-    ensures { Adds out.old result (reply_lines replies.now) out.new }
+// Adds the text of each item, one behind another.
+fn add_each<T, F: Fn(&T) -> Text>(out: &mut Vec<u8>, items: &[T], text: F) -> Result<(), AllocError>
+    requires { F.IsAlwaysCallable text }
+    ensures { (words : T → List ℕ) → Tells (FnReturnsAt F.Fn text) words
+        → Adds out.old result (told_all words items.now) out.new }
 {
-    for reply in replies {
-        add_text(out, reply_text(*reply))?;
-    }
-    Ok(())
-}
-
-// Adds the line of each report.
-fn add_reports(out: &mut Vec<u8>, reports: &[Report]) -> Result<(), AllocError>
-    ensures { Adds out.old result (report_lines_lem (map report_by reports.now))
-        out.new }
-{
-    for report in reports {
-        add_text(out, report.text())?;
-    }
-    Ok(())
-}
-
-// Adds each key.
-fn add_keys(out: &mut Vec<u8>, events: &[KeyEvent]) -> Result<(), AllocError>
-    ensures { Adds out.old result (told_all key_words events.now) out.new }
-{
-    for event in events {
-        add_text(out, key_text(*event))?;
+    for item in items {
+        add_text(out, text(item))?;
     }
     Ok(())
 }
@@ -57,7 +38,7 @@ fn add_ahead(out: &mut Vec<u8>, events: &[KeyEvent]) -> Result<(), AllocError>
     ensures { Adds out.old result (ahead_line events.now) out.new }
 {
     out.extend_from_slice(b"ahead")?;
-    add_keys(out, events)?;
+    add_each(out, events, |event| key_text(*event))?;
     out.extend_from_slice(b"\n")
 }
 
@@ -65,9 +46,9 @@ fn add_ahead(out: &mut Vec<u8>, events: &[KeyEvent]) -> Result<(), AllocError>
 pub fn add_side(out: &mut Vec<u8>, side: &Side) -> Result<(), AllocError>
     ensures { Adds out.old result (side_words (shown_by side.now)) out.new }
 {
-    add_replies(out, &side.replies)?;
+    add_each(out, &side.replies, |reply| reply_text(*reply))?;
     out.extend_from_slice(b"reports\n")?;
-    add_reports(out, &side.reports)?;
+    add_each(out, &side.reports, Report::text)?;
     out.extend_from_slice(b"written\n")?;
     out.extend_from_slice(&side.lines)?;
     add_text(out, entry_text(side.entry))?;

@@ -1,11 +1,12 @@
 -- The parts, one behind another. Assumes nothing.
-use Rattle.std.proofs.Common.{ℕ, List, [], ◌∷◌, ◌++◌, map, vec_items, codes, refl, ap, ◌∙◌}
+use Rattle.std.proofs.Common.{ℕ, List, [], ◌∷◌, ◌++◌, vec_items, codes, sym, refl, ap, ◌∙◌, rules}
 use Rattle.keypad.specs.declared.key.KeyEvent.{KeyEvent}
 use Rattle.key_record.specs.declared.answer.Reply.{Reply}
+use Rattle.key_record.specs.Letters.{report_line}
 use Rattle.line_parts.specs.declared.report.Report.{Report}
 use Rattle.play_report.specs.Sides.{report_by, shown_by}
-use Rattle.play_report.specs.Words.{reply_lines, report_lines_lem, entry_line, ahead_line}
-use Rattle.play_report.proofs.Told.{joined-++}
+use Rattle.play_report.specs.Words.{told_all, reply_line, reply_lines, report_lines_lem, entry_line, ahead_line}
+use Rattle.play_report.proofs.Told.{joined-++, report_told, told_map}
 use Rattle.play_report.proofs.tell.add_side.Goals as goal
 
 pub returns : goal.returns
@@ -16,10 +17,11 @@ returns c ok =
     let written = vec_items c.extend_from_slice-2.new.self in
     let lined = vec_items c.extend_from_slice-3.new.self in
     let entered = vec_items c.add_text.new.out in
-    let replies = c.in_ok-add_replies.ensures refl
+    let replies = c.in_ok-add_each.ensures reply_line (λ x t p. search rules) refl
     ∙ ap (λ (l : List Reply). start ++ reply_lines l) c.deref.ensures.value in
-    let reports = c.in_ok-add_reports.ensures refl
-    ∙ ap (λ (l : List Report). listed ++ report_lines_lem (map report_by l)) c.deref-2.ensures.value in
+    let reports = c.in_ok-add_each-2.ensures report_told (λ x t p. search rules) refl
+    ∙ (ap (λ (l : List Report). listed ++ told_all report_told l) c.deref-2.ensures.value
+    ∙ ap (λ (l : List ℕ). listed ++ l) (sym (told_map (λ r. report_line r.dial r.ending) report_by _))) in
     let lines = c.in_ok-extend_from_slice-3.ensures.items
     ∙ ap (λ (l : List ℕ). written ++ l) c.deref-3.ensures.value in
     let entry = c.in_ok-add_text.ensures refl ∙ ap (λ (l : List ℕ). lined ++ l) c.entry_text.ensures in
