@@ -1,36 +1,33 @@
 -- Lines that end a sale, and the sales that they end. Assumes nothing.
-use Rattle.std.proofs.Common.{◌≡◌, ℕ, ◌+◌, ◌<◌, ◌≤◌, ltb, List, [], ◌++◌, length, take, drop, Some, None, Option, sym, ap, ◌∙◌, subst, inl, inr, append_assoc, arith, length-append, length-drop, Bor, MatchOption}
-use Rattle.std.proofs.lemmas.List.{append-nil, length-take-le}
-use Rattle.std.proofs.lemmas.Bool.{cases_Bool, ltb-true, ltb-false}
+use Rattle.std.proofs.Common.{◌≡◌, ℕ, ◌+◌, ◌<◌, ◌≤◌, List, [], ◌++◌, length, take, drop, Some, None, Option, sym, ap, ◌∙◌, subst, append_assoc, arith, length-append, length-drop, MatchOption}
+use Rattle.std.proofs.lemmas.List.{append-nil, drop-drop, length-take-le}
 use Rattle.sale.specs.Sales.{Sold}
-use Rattle.sale_runs.specs.Runs.{mark, Begins, Marked, Unmarked, Parts, Runs, ended, sold}
+use Rattle.sale_runs.specs.Runs.{mark, Marked, Unmarked, First, Parts, Runs, ended, sold}
 
--- what begins with the mark at the beginning of a line is a line that ends a sale
-pub marked_by : (bs : List ℕ) (n : ℕ) (s : List ℕ) (r : Option (Bor (List ℕ))) →
-    s ≡ drop n bs → Begins bs n →
-    MatchOption r ((rest : List ℕ) → s ≡ mark ++ rest → ⊥) (λ x. s ≡ mark ++ x.now) →
-    MatchOption r ((rest : List ℕ) → Marked bs n rest → ⊥) (λ x. Marked bs n x.now)
-marked_by bs n s (Some x) e line h = (line, sym e ∙ h)
-marked_by bs n s None e line h = λ rest m. h rest (e ∙ m.1)
-
--- one place more at which none begins
-pub unmarked_more : (bs : List ℕ) (n : ℕ) → Unmarked bs n → ((rest : List ℕ) → Marked bs n rest → ⊥) →
-    Unmarked bs (n + 1)
-unmarked_more bs n none here k rest below m =
-    elim (cases_Bool (ltb k n)) [
-      | inl l ↦ none k rest (omega (arith, ltb-true)) m
-      | inr g ↦ here rest (subst (λ j. Marked bs j rest) (omega (arith, ltb-false)) m)
-    ]
+-- the first line that ends a sale, of all that there are
+pub first_marked : (bs : List ℕ) (r : Option ℕ) →
+    MatchOption r ((k : ℕ) → 0 ≤ k → k < length bs → (rest : List ℕ) → Marked bs k rest → ⊥)
+    (λ n. (0 ≤ n) × (n < length bs) × ((rest : List ℕ) × Marked bs n rest)
+    × ((k : ℕ) → 0 ≤ k → k < n → (rest : List ℕ) → Marked bs k rest → ⊥)) →
+    MatchOption r (Unmarked bs (length bs)) (First bs)
+first_marked bs None none = λ k rest below m. none k (omega arith) below rest m
+first_marked bs (Some n) (low, inside, (rest, m), none) =
+    let back : length (drop n bs) ≡ length (mark ++ rest) = ap length m.1 in
+    record {
+      fits = omega (arith, length-drop n bs, length-append mark rest);
+      here = (rest, m);
+      first = λ k rest below m. none k (omega arith) below rest m;
+    }
 
 -- an input is parted at the first line that ends a sale
-pub parts_at : (bs : List ℕ) (n : ℕ) (rest : List ℕ) → n ≤ length bs → Unmarked bs n → Marked bs n rest →
-    Parts bs (take n bs) rest
-parts_at bs n rest inside first here =
-    let front = length-take-le n bs inside in
+pub parts_first : (bs : List ℕ) (n : ℕ) → First bs n → Parts bs (take n bs) (drop (n + 5) bs)
+parts_first bs n f =
+    let front = length-take-le n bs (omega arith) in
+    let behind : drop (n + 5) bs ≡ f.here.0 = sym (drop-drop 5 n bs) ∙ ap (drop 5) f.here.1.1 in
     record {
       before = ap (λ k. take k bs) (sym front);
-      here = subst (λ k. Marked bs k rest) (sym front) here;
-      first = subst (λ k. Unmarked bs k) (sym front) first;
+      here = subst (λ k. Marked bs k (drop (n + 5) bs)) (sym front) (subst (Marked bs n) (sym behind) f.here.1);
+      first = subst (λ k. Unmarked bs k) (sym front) f.first;
     }
 
 -- what stands behind a sale is shorter than the input

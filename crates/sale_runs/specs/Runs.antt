@@ -1,5 +1,5 @@
 -- Sales one behind another, each ended by a line of its own. Assumes nothing.
-use Rattle.std.specs.Prelude.{◌≡◌, ℕ, ◌-◌, ◌<◌, ◌⊎◌, List, [], ◌∷◌, ◌++◌, length, take, drop, slice_index}
+use Rattle.std.specs.Prelude.{◌≡◌, ℕ, ◌+◌, ◌-◌, ◌<◌, ◌≤◌, ◌⊎◌, List, [], ◌∷◌, ◌++◌, length, take, drop, slice_index}
 use Rattle.sale.specs.Sales.{Sold}
 
 -- four equals signs and a line feed
@@ -17,6 +17,12 @@ Marked bs n rest = Begins bs n × (drop n bs ≡ mark ++ rest)
 -- none begins before place n
 abbrev pub Unmarked : List ℕ → ℕ → Type 0
 Unmarked bs n = (k : ℕ) (rest : List ℕ) → k < n → Marked bs k rest → ⊥
+
+-- the first line that ends a sale begins at place n, and something stands behind it
+pub record First (bs : List ℕ) (n : ℕ) : Type 0 where
+  pub fits : n + 5 ≤ length bs
+  pub here : (rest : List ℕ) × Marked bs n rest
+  pub first : Unmarked bs n
 
 -- one stands before the first line that ends a sale, and rest behind it
 pub record Parts (input one rest : List ℕ) : Type 0 where

@@ -1,6 +1,6 @@
 //! Sales one behind another.
-ghost use Rattle.std.specs.Prelude.{ℕ, ◌<◌, List, length, IfOk, MatchOption};
-ghost use Rattle.sale_runs.specs.Runs.{Marked, Unmarked, Parts, Runs};
+ghost use Rattle.std.specs.Prelude.{ℕ, ◌<◌, List, length, IfOk, MatchBool, MatchOption};
+ghost use Rattle.sale_runs.specs.Runs.{Marked, Unmarked, First, Parts, Runs};
 
 use sale::session::sell;
 use std::alloc::{AllocError, Global};
@@ -8,16 +8,20 @@ use std::alloc::{AllocError, Global};
 // The line that ends a sale.
 const MARK: &[u8; 5] = b"====\n";
 
-// What stands behind a line that ends a sale, if one begins at the place.
-fn behind_mark(input: &[u8], at: usize) -> Option<&[u8]>
+// Whether a line that ends a sale begins at the place.
+fn is_marked(input: &[u8], at: usize) -> bool
     requires { at < length input.now }
-    ensures { MatchOption result ((rest : List ℕ) → Marked input.now at rest → ⊥)
-        (λ rest. Marked input.now at rest.now) }
+    ensures { MatchBool result ((rest : List ℕ) × Marked input.now at rest)
+        ((rest : List ℕ) → Marked input.now at rest → ⊥) }
 {
-    if at > 0 && input[at - 1] != b'\n' {
-        return None;
-    }
-    input[at..].strip_prefix(MARK)
+    (at == 0 || input[at - 1] == b'\n') && input[at..].starts_with(MARK)
+}
+
+// Where the first line that ends a sale begins.
+fn first_mark(input: &[u8]) -> Option<usize>
+    ensures { MatchOption result (Unmarked input.now (length input.now)) (First input.now) }
+{
+    (0..input.len()).find(|at| is_marked(input, *at))
 }
 
 // What stands before the first line that ends a sale and what stands behind it, or none where no line does.
@@ -25,12 +29,8 @@ fn first_sale(input: &[u8]) -> Option<(&[u8], &[u8])>
     ensures { MatchOption result (Unmarked input.now (length input.now))
         (λ x. Parts input.now x.0.now x.1.now) }
 {
-    for at in 0..input.len() {
-        if let Some(rest) = behind_mark(input, at) {
-            return Some((&input[0..at], rest));
-        }
-    }
-    None
+    let at = first_mark(input)?;
+    Some((&input[0..at], &input[at + MARK.len()..]))
 }
 
 // What the sales of an input print, each with the line that ends it. What stands behind the last such line is
