@@ -21,18 +21,13 @@ pub fn unescape(heap: Global, text: &[u8]) -> Result<Vec<u8>, AllocError>
     ensures { IfOk result (λ v. v.items ≡ unescaped false text.now) }
 {
     let mut out = Vec::new(heap);
-    let mut escaped = false;
-    for byte in text {
-        if escaped {
-            out.push(meant(*byte))?;
-            escaped = false;
-            continue;
+    let mut bytes = text.iter();
+    while let Some(byte) = bytes.next() {
+        if *byte != b'\\' {
+            out.push(*byte)?;
+        } else if let Some(letter) = bytes.next() {
+            out.push(meant(*letter))?;
         }
-        if *byte == b'\\' {
-            escaped = true;
-            continue;
-        }
-        out.push(*byte)?;
     }
     Ok(out)
 }

@@ -9,23 +9,19 @@ use line::line::Line;
 // One event: the letter of a key that is pressed briefly, or `t`, by which the running timer expires.
 fn give<P: Plan>(line: &mut Line<P>, event: u8) -> Result<Progress, Refusal> {
     if event == b't' {
-        return match line.timer() {
-            Some((timer, _)) => line.expire(timer),
-            None => Err(Refusal::NoTimer),
-        };
+        let (timer, _) = line.timer().ok_or(Refusal::NoTimer)?;
+        return line.expire(timer);
     }
-    match read_command(&[b'k', event]) {
-        Some(Command::Key(pressed)) => line.key(pressed.key, pressed.tenths),
-        _ => Err(Refusal::Key),
-    }
+    let Some(Command::Key(pressed)) = read_command(&[b'k', event]) else {
+        return Err(Refusal::Key);
+    };
+    line.key(pressed.key, pressed.tenths)
 }
 
 // Plays events up to the report, and answers how many are left behind it. A refused one changes nothing.
 pub fn play<P: Plan>(line: &mut Line<P>, events: &[u8]) -> usize {
-    for (at, event) in events.iter().enumerate() {
-        if let Ok(Progress::Done) = give(line, *event) {
-            return events.len() - at - 1;
-        }
-    }
-    0
+    events
+        .iter()
+        .position(|event| give(line, *event) == Ok(Progress::Done))
+        .map_or(0, |at| events.len() - at - 1)
 }

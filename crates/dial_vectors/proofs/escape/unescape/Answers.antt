@@ -1,41 +1,27 @@
 -- Each byte is read as it has to be, and the last leaves none. Assumes nothing.
-use Rattle.std.proofs.Common.{◌≡◌, true, false, [], ◌∷◌, ◌++◌, get_or, drop, vec_items}
-use Rattle.dial_vectors.specs.Escapes.{meaning, unescaped}
-use Rattle.dial_vectors.proofs.Escapes.{escaped_read, backslash_passed, plain_read, text_read}
+use Rattle.std.proofs.Common.{vec_items}
+use Rattle.dial_vectors.proofs.Escapes.{plain_read, escape_read, lone_passed, text_read}
 use Rattle.dial_vectors.proofs.escape.unescape.Goals as goal
 
-pub loop-byte-preserved-then-escaped : goal.loop-byte-preserved-then-escaped
-loop-byte-preserved-then-escaped c =
-    let text = c.args.text.now in
-    let at = c.loop-byte.byte-index in
-    let out = vec_items c.loop-byte.out in
-    let left : out ++ unescaped true (drop at text) ≡ unescaped false text =
-    simp c.if-escaped.true at c.loop-byte.invariant in
-    let grown : vec_items c.push.new.self ≡ out ++ meaning (get_or text at 0) ∷ [] =
-    cc (c.in_ok-push.ensures.items, c.meant.ensures) in
-    rw grown (escaped_read text at c.loop-byte-test.true out (unescaped false text) left)
+pub loop-byte-preserved-in-Continue-1 : goal.loop-byte-preserved-in-Continue-1
+loop-byte-preserved-in-Continue-1 c =
+    rw c.in_ok-push.ensures.items
+    (plain_read (vec_items c.loop-byte.out) _ c.loop-byte.invariant c.in-Some.byte.now _ c.in-Some.ensures.steps
+    c.if-byte-ne92.true)
 
-pub loop-byte-preserved-then-byte-eq92 : goal.loop-byte-preserved-then-byte-eq92
-loop-byte-preserved-then-byte-eq92 c =
-    let text = c.args.text.now in
-    let at = c.loop-byte.byte-index in
-    let out = vec_items c.loop-byte.out in
-    let left : out ++ unescaped false (drop at text) ≡ unescaped false text =
-    simp c.if-escaped.false at c.loop-byte.invariant in
-    backslash_passed text at c.loop-byte-test.true out (unescaped false text) c.if-byte-eq92.true
-    left
+pub loop-byte-preserved-in-Continue-branch-2 : goal.loop-byte-preserved-in-Continue-branch-2
+loop-byte-preserved-in-Continue-branch-2 c =
+    rw (c.in_ok-push-2.ensures.items, c.meant.ensures)
+    (escape_read (vec_items c.loop-byte.out) _ c.loop-byte.invariant c.in-Some.byte.now c.in-Some-next.letter.now _ _
+    c.in-Some.ensures.steps c.if-byte-ne92.false c.in-Some-next.ensures.steps)
 
 pub loop-byte-preserved : goal.loop-byte-preserved
 loop-byte-preserved c =
-    let text = c.args.text.now in
-    let at = c.loop-byte.byte-index in
-    let out = vec_items c.loop-byte.out in
-    let left : out ++ unescaped false (drop at text) ≡ unescaped false text =
-    simp c.if-escaped.false at c.loop-byte.invariant in
-    rw (c.in_ok-push-2.ensures.items, c.if-escaped.false)
-    (plain_read text at c.loop-byte-test.true out (unescaped false text) c.if-byte-eq92.false left)
+    rw c.in_default-next.ensures.steps.1
+    (lone_passed (vec_items c.loop-byte.out) _ c.loop-byte.invariant c.in-Some.byte.now _ c.in-Some.ensures.steps
+    c.if-byte-ne92.false c.in_default-next.ensures.steps.0)
 
 pub returns : goal.returns
 returns c =
-    text_read c.args.text.now c.loop-byte.byte-index c.loop-byte-test.false
-    (vec_items c.loop-byte.out) _ c.loop-byte.escaped c.loop-byte.invariant
+    text_read (vec_items c.loop-byte.out) _ c.loop-byte.bytes.rest.now c.in_default.ensures.steps.0
+    c.loop-byte.invariant
