@@ -1,6 +1,7 @@
 -- Bytes write at most one command. Assumes nothing.
 use Rattle.std.proofs.Common.{◌≡◌, ℕ, cond, eqb, List, sym, refl, ap, ◌∙◌, arith}
 use Rattle.std.proofs.lemmas.Bool.Decides.{nat_tests}
+use Rattle.keypad.specs.Letters.{Letter}
 use Rattle.key_record.specs.declared.settings.Disposition.{Disposition}
 use Rattle.key_record.specs.declared.settings.Disposition.TheVariants.{Keep, Drop}
 use Rattle.key_record.specs.declared.settings.Procedure.{Procedure}
@@ -9,7 +10,7 @@ use Rattle.key_record.specs.declared.timer.Timer.{Timer}
 use Rattle.key_record.specs.declared.timer.Timer.TheVariants.{Start, Short, Long}
 use Rattle.key_record.specs.Letters.{timer_letter_lem}
 use Rattle.commands.specs.declared.command.Command.{Command}
-use Rattle.commands.specs.Written.{Writes, Letter, procedure_letter, disposition_letter}
+use Rattle.commands.specs.Written.{Writes, procedure_letter, disposition_letter}
 use Rattle.commands.specs.Written.Writes.{arm, tap, hold, expire, close}
 use Rattle.commands.proofs.Written.{arm_parts, tap_parts, hold_parts, expire_parts, close_parts}
 

@@ -2,13 +2,14 @@
 use Rattle.std.proofs.Common.{◌≡◌, ℕ, suc, ◌+◌, ◌*◌, ◌/◌, ◌%◌, ◌<◌, ◌⊎◌, List, [], ◌∷◌, map, length, get_or, Option, sym, refl, ap, ◌∙◌, subst, inl, inr, arith}
 use Rattle.std.specs.List.{range_with_len}
 use Rattle.std.proofs.lemmas.List.FromFn.{fill_by_all}
+use Rattle.keypad.specs.Letters.{Letter}
 use Rattle.key_record.specs.declared.settings.Disposition.{Disposition}
 use Rattle.key_record.specs.declared.settings.Procedure.{Procedure}
 use Rattle.key_record.specs.declared.timer.Timer.{Timer}
 use Rattle.key_record.specs.Letters.{timer_letter_lem}
 use Rattle.commands.specs.declared.command.Command.{Command}
 use Rattle.commands.specs.declared.command.Command.TheVariants.{Arm, Key, Expire, Close}
-use Rattle.commands.specs.Written.{Finds, Writes, Letter, Digit, procedure_letter, disposition_letter}
+use Rattle.commands.specs.Written.{Finds, Writes, Digit, procedure_letter, disposition_letter}
 use Rattle.commands.specs.Written.Writes.{arm, tap, hold, expire, close}
 
 -- two digits write the number that they make

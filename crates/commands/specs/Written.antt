@@ -24,10 +24,6 @@ abbrev pub disposition_letter : Disposition → ℕ
 disposition_letter Keep = 107
 disposition_letter Drop = 100
 
--- b is the letter of the key k
-abbrev pub Letter : ℕ → ℕ → Type 0
-Letter b k = (k < 16) × (b ≡ key_letter_lem k)
-
 -- b is the digit of the number n
 abbrev pub Digit : ℕ → ℕ → Type 0
 Digit b n = (n < 10) × (b ≡ 48 + n)

@@ -1,12 +1,13 @@
 //! Commands as they are written.
 ghost use Rattle.std.specs.Prelude.{◌≡◌, [], ◌∷◌};
 ghost use Rattle.key_record.specs.Letters.{timer_letter_lem};
-ghost use Rattle.commands.specs.Written.{Finds, Writes, Letter, Digit, procedure_letter, disposition_letter};
+ghost use Rattle.commands.specs.Written.{Finds, Writes, Digit, procedure_letter, disposition_letter};
 
 use crate::command::Command;
 use key_record::settings::{Disposition, Procedure};
 use key_record::timer::Timer;
 use keypad::key::KeyEvent;
+use keypad::letter::key_of;
 
 // The procedure that a letter stands for.
 fn procedure_of(letter: u8) -> Option<Procedure>
@@ -38,17 +39,6 @@ fn timer_of(letter: u8) -> Option<Timer>
         b'T' => Some(Timer::Start),
         b'S' => Some(Timer::Short),
         b'L' => Some(Timer::Long),
-        _ => None,
-    }
-}
-
-// The key that a letter stands for.
-fn key_of(letter: u8) -> Option<u8>
-    ensures { Finds (Letter letter) result }
-{
-    match letter {
-        b'0'..=b'9' => Some(letter - b'0'),
-        b'A'..=b'F' => Some(letter - b'A' + 10),
         _ => None,
     }
 }

@@ -3,6 +3,7 @@ ghost use Rattle.std.specs.Prelude.{◌≡◌, ◌≤◌, ◌++◌, length, deci
 ghost use Rattle.line_parts.specs.Texts.{text_of, cut};
 ghost use Rattle.commands.specs.Told.{wait_words, progress_words, no_line, told_line, unreadable_number};
 
+use itoa::Buffer;
 use key_record::answer::Progress;
 use key_record::refusal::Refusal;
 use key_record::timer::Timer;
@@ -18,12 +19,7 @@ pub fn add_number(text: &mut Text, number: usize)
         cut (text_of text.old ++ decimal number) }
     ensures bound { length (decimal number) ≤ 20 }
 {
-    if number < 10 {
-        text.push(b'0' + number as u8);
-    } else {
-        add_number(text, number / 10);
-        text.push(b'0' + (number % 10) as u8);
-    }
+    text.push_all(Buffer::new().format(number).as_bytes());
 }
 
 // Adds what a line waits for.
