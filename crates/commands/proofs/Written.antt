@@ -1,5 +1,5 @@
 -- The forms of commands: which bytes write one, and which write none. Assumes nothing.
-use Rattle.std.proofs.Common.{◌≡◌, ℕ, suc, ◌+◌, ◌*◌, ◌/◌, ◌%◌, ◌<◌, ◌⊎◌, List, [], ◌∷◌, map, length, get_or, Option, sym, refl, ap, ◌∙◌, subst, inl, inr, arith}
+use Rattle.std.proofs.Common.{◌≡◌, ℕ, suc, ◌+◌, ◌*◌, ◌/◌, ◌%◌, ◌<◌, List, [], ◌∷◌, map, length, get_or, Option, sym, refl, ap, ◌∙◌, subst, arith}
 use Rattle.std.specs.List.{range_with_len}
 use Rattle.std.proofs.lemmas.List.FromFn.{fill_by_all}
 use Rattle.keypad.specs.Letters.{Letter}
@@ -43,17 +43,6 @@ expire_parts (expire t) = (t, refl, refl)
 
 pub close_parts : {c : Command} → Writes (99 ∷ []) c → c ≡ Close
 close_parts close = refl
-
--- each form has its length and its first byte
-pub shape : {bs : List ℕ} {c : Command} → Writes bs c →
-    ((length bs ≡ 3) × (get_or bs 0 0 ≡ 97)) ⊎ ((length bs ≡ 2) × (get_or bs 0 0 ≡ 107))
-    ⊎ ((length bs ≡ 4) × (get_or bs 0 0 ≡ 107)) ⊎ ((length bs ≡ 2) × (get_or bs 0 0 ≡ 101))
-    ⊎ ((length bs ≡ 1) × (get_or bs 0 0 ≡ 99))
-shape (arm p d) = inl (refl, refl)
-shape (tap k h) = inr (inl (refl, refl))
-shape (hold k t h l) = inr (inr (inl (refl, refl)))
-shape (expire t) = inr (inr (inr (inl (refl, refl))))
-shape close = inr (inr (inr (inr (refl, refl))))
 
 -- what is found of a first byte and the bytes behind it, place by place, is found of all
 pub found_by_places : (bs : List ℕ) (n b : ℕ) (o : Option Command) → length bs ≡ suc n → get_or bs 0 0 ≡ b →

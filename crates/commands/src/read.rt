@@ -9,7 +9,8 @@ use key_record::timer::Timer;
 use keypad::key::KeyEvent;
 use keypad::letter::key_of;
 
-// The procedure that a letter stands for.
+// The procedure that a letter stands for. As a TryFrom it would stand beside the enum, in key_record, with an error
+// that says no more than None; so with the next two.
 fn procedure_of(letter: u8) -> Option<Procedure>
     ensures { Finds (λ p. letter ≡ procedure_letter p) result }
 {
@@ -43,7 +44,7 @@ fn timer_of(letter: u8) -> Option<Timer>
     }
 }
 
-// The number that a digit stands for.
+// The number that a digit stands for, by its range: a digit of a char is a u32, and a cast more.
 fn digit_of(letter: u8) -> Option<u8>
     ensures { Finds (Digit letter) result }
 {

@@ -10,7 +10,8 @@ use key_record::timer::Timer;
 use line_parts::report::timer_letter;
 use line_parts::text::Text;
 
-// The number with which a line that writes no command is refused.
+// The number with which a line that writes no command is refused. It is the only refusal but those of a keypad line,
+// and an enum around them would have no other use.
 const UNREADABLE: u8 = 70;
 
 // Adds a number in decimal.

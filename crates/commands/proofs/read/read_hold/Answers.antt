@@ -3,11 +3,6 @@ use Rattle.std.proofs.Common.{◌/◌, ◌%◌}
 use Rattle.commands.proofs.Written.{hold_written, hold_parts}
 use Rattle.commands.proofs.read.read_hold.Goals as goal
 
-pub returns-in_err-key : goal.returns-in_err-key
-returns-in_err-key c =
-    let none = c.in_err-key.ensures in
-    rw c.from_residual.ensures (λ x w. none (hold_parts w).0 (hold_parts w).2)
-
 pub returns-in_err-digit_of : goal.returns-in_err-digit_of
 returns-in_err-digit_of c =
     let none = c.in_err-digit_of.ensures in
