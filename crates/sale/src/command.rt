@@ -40,6 +40,7 @@ fn give<P: Plan>(line: &mut Line<P>, timers: Timers, command: Command, memory: &
         }
         Command::Key(event) => print(told(line.key(event.key, event.tenths)), memory),
         Command::Expire(timer) => print(told(line.expire(timer)), memory),
+        // Tried as unwrap_or_else: it does not say that the memory stays where its closure is not called.
         Command::Close => match line.close(memory) {
             Ok(length) => length,
             Err(refusal) => print(told(Err(refusal)), memory),
@@ -62,8 +63,8 @@ pub fn obey<P: Plan>(
     if memory.len() < 85 {
         return Err(Refusal::Memory);
     }
-    match read_command(bytes) {
-        Some(command) => Ok(give(line, timers, command, memory)),
-        None => Ok(print(unreadable(), memory)),
-    }
+    let Some(command) = read_command(bytes) else {
+        return Ok(print(unreadable(), memory));
+    };
+    Ok(give(line, timers, command, memory))
 }

@@ -54,10 +54,7 @@ fn sell_by(heap: Global, text: &[u8], commands: &[u8]) -> Result<Vec<u8>, AllocE
             let _plan = line.into_plan();
             out
         }
-        Err(fault) => {
-            let told = fault_line(heap, fault)?;
-            Vec::from_slice(heap, told.as_bytes())
-        }
+        Err(fault) => Ok(fault_line(heap, fault)?.into_bytes()),
     }
 }
 
@@ -65,8 +62,6 @@ fn sell_by(heap: Global, text: &[u8], commands: &[u8]) -> Result<Vec<u8>, AllocE
 pub fn sell(heap: Global, input: &[u8]) -> Result<Vec<u8>, AllocError>
     ensures { IfOk result (λ out. Sold input.now out.items) }
 {
-    match first_line(input) {
-        Some((text, commands)) => sell_by(heap, text, commands),
-        None => sell_by(heap, input, input),
-    }
+    let (text, commands) = first_line(input).unwrap_or((input, input));
+    sell_by(heap, text, commands)
 }
