@@ -1,3 +1,16 @@
 pub mod Told
 pub mod Rows
+pub mod Numbers
+pub mod Readings
+pub mod Codes
+pub mod Unique
+pub mod Alike
+pub mod Reasons
+pub mod Called
+pub mod Once
+pub mod Determined
 pub mod Blanks
+pub mod Replies
+pub mod Outcomes
+pub mod Transcripts
+pub mod Materials

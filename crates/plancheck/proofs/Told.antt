@@ -7,9 +7,9 @@ use Rattle.plan_report.specs.Rows.{RowTold}
 use Rattle.plan_report.proofs.Rows.{row_same}
 use Rattle.plans.specs.Coded.{Behind}
 use Rattle.plans.specs.Behind.{behind_same}
-use Rattle.plancheck.specs.declared.kept.Kept.{Kept}
 use Rattle.plancheck.specs.declared.make.Make.{Make}
 use Rattle.plancheck.specs.Makes.{entries_of}
+use Rattle.plancheck.specs.Stores.{Store}
 
 -- the same entries behind the same code
 pub coded_same : (ks ls : List ℕ) (a b : Entries) → ks ≡ ls → Same a b → Same (Behind ks a) (Behind ls b)
@@ -23,7 +23,7 @@ module _ {Z Y : Type 0} (row : List Symbol) where
   told_same a b (Err y) same h = tt
 
   -- a row that is told of the entries of a make
-  pub told_of : (k : Kept) (m n : Make) (a : Entries) (r : Result (String Z) Y) → m ≡ n →
+  pub told_of : (k : Store) (m n : Make) (a : Entries) (r : Result (String Z) Y) → m ≡ n →
       Same a (entries_of k n) → IfOk r (λ s. RowTold a row (string_bytes s)) →
       IfOk r (λ s. RowTold (entries_of k m) row (string_bytes s))
   told_of k m n a r e same h =

@@ -1,8 +1,9 @@
 -- Keys and symbols as they are written. Assumes nothing.
-use Rattle.std.specs.Prelude.{◌≡◌, ℕ, ◌<◌, Bool, true, false, List, [], ◌∷◌, ◌++◌}
+use Rattle.std.specs.Prelude.{◌≡◌, ℕ, ◌<◌, Bool, true, false, ◌⊎◌, List, [], ◌∷◌, ◌++◌}
 use Rattle.keypad.specs.declared.key.Symbol.{Symbol}
 use Rattle.keypad.specs.declared.key.Symbol.TheVariants.{Plain, Long}
 use Rattle.plan_report.specs.Words.{key_code, named}
+use Rattle.std.specs.List.{AllByRecursion}
 
 -- b is the letter of the key k
 abbrev pub Letter : ℕ → ℕ → Type 0
@@ -11,6 +12,10 @@ Letter b k = (k < 16) × (b ≡ key_code k)
 -- b is the letter of no key
 abbrev pub NoLetter : ℕ → Type 0
 NoLetter b = (k : ℕ) → Letter b k → ⊥
+
+-- n is what a code keeps of the letter b: its key, or 16 if b is the letter of no key
+abbrev pub CodeLetter : ℕ → ℕ → Type 0
+CodeLetter b n = Letter b n ⊎ (NoLetter b × (n ≡ 16))
 
 -- a key as a symbol, held long or not
 abbrev pub keyed : ℕ → Bool → Symbol
@@ -21,3 +26,13 @@ keyed k false = Plain k
 abbrev pub spelled : List Symbol → List ℕ
 spelled [] = []
 spelled (s ∷ ss) = named s ++ spelled ss
+
+-- a symbol of one of the keys 0 to F
+abbrev pub OfKey : Symbol → Type 0
+OfKey (Plain k) = k < 16
+OfKey (Long k) = k < 16
+
+-- bs has the symbols of a row, one behind another, each of them of a key
+pub record Spells (bs : List ℕ) (ss : List Symbol) : Type 0 where
+  pub letters : bs ≡ spelled ss
+  pub keys : AllByRecursion OfKey ss

@@ -1,5 +1,11 @@
+pub mod Names
+pub mod Stores
+pub mod Materials
+pub mod Stops
 pub mod Makes
 pub mod Letters
+pub mod Numbers
 pub mod Blanks
-pub mod Outcomes
 pub mod Replies
+pub mod Outcomes
+pub mod Transcripts

@@ -1,5 +1,6 @@
-ghost use Rattle.std.specs.Prelude.{◌≡◌, [], IfOk, None, string_bytes};
-ghost use Rattle.plancheck.specs.Replies.{question, MapKept};
+ghost use Rattle.std.specs.Prelude.{◌≡◌, IfOk, string_bytes};
+ghost use Rattle.plancheck.specs.Replies.{question, Gives, MapKept, MapLine, LotsLine, CodeLine};
+ghost use Rattle.plancheck.specs.Stores.{store_of, fresh};
 
 use crate::read::{read_code, read_numbers};
 use digit_map::map::Map;
@@ -26,10 +27,7 @@ pub fn unknown(heap: Global) -> Result<String, AllocError>
 
 impl Kept {
     pub fn new(heap: Global) -> Kept
-        ensures map { result.map ≡ None }
-        ensures width { result.width ≡ 0 }
-        ensures lots { result.lots.items ≡ [] }
-        ensures code { result.code.items ≡ [] }
+        ensures { store_of result ≡ fresh }
     {
         Kept {
             map: None,
@@ -41,8 +39,8 @@ impl Kept {
 
     // Keeps the map of a text. A text that is no map is told by its fault, and the map before it stays.
     pub fn keep_map(&mut self, heap: Global, text: &[u8]) -> Result<String, AllocError>
+        ensures gives { Gives (MapLine (store_of self.old) text.now) self.old result self.new }
         ensures map { MapKept text.now self.old.map self.new.map }
-        ensures width { self.new.width ≡ self.old.width }
         ensures lots { self.new.lots ≡ self.old.lots }
         ensures code { self.new.code ≡ self.old.code }
     {
@@ -55,17 +53,15 @@ impl Kept {
         }
     }
 
-    // Keeps a width and the numbers behind it.
+    // Keeps a width and the numbers behind it. A text that has none, or whose width 8 bits do not hold, is
+    // told by a question mark, and what was kept stays.
     pub fn keep_lots(&mut self, heap: Global, text: &[u8]) -> Result<String, AllocError>
-        ensures map { self.new.map ≡ self.old.map }
+        ensures gives { Gives (LotsLine (store_of self.old) text.now) self.old result self.new }
         ensures code { self.new.code ≡ self.old.code }
     {
         let Some(mut numbers) = read_numbers(heap, text)? else {
             return unknown(heap);
         };
-        if numbers.is_empty() {
-            return unknown(heap);
-        }
         let Ok(width) = u8::try_from(numbers.remove(0)) else {
             return unknown(heap);
         };
@@ -76,8 +72,7 @@ impl Kept {
 
     // Keeps the keys of a code.
     pub fn keep_code(&mut self, heap: Global, text: &[u8]) -> Result<String, AllocError>
-        ensures map { self.new.map ≡ self.old.map }
-        ensures width { self.new.width ≡ self.old.width }
+        ensures gives { Gives (CodeLine (store_of self.old) text.now) self.old result self.new }
         ensures lots { self.new.lots ≡ self.old.lots }
     {
         self.code = read_code(heap, text)?;

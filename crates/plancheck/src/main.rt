@@ -1,6 +1,7 @@
 //! Reads lines that keep a map, lots or a code, or that show a plan made of them, and prints what each gives.
 #![tactic(auto)]
 
+mod command;
 mod kept;
 mod make;
 mod part;

@@ -1,3 +1,6 @@
+ghost use Rattle.std.specs.Prelude.{◌≡◌, MatchOption, ◌≢◌};
+ghost use Rattle.plancheck.specs.Names.{make_name};
+
 // A map, lots, a map beside lots, a code over a map, a code over lots, a map beside a code over lots, and a
 // code over a map beside lots.
 #[derive(Clone, Copy)]
@@ -12,7 +15,10 @@ pub enum Make {
 }
 
 // The make that goes by a name.
-pub fn make_of(name: &[u8]) -> Option<Make> {
+pub fn make_of(name: &[u8]) -> Option<Make>
+    ensures { MatchOption result ((m : Make) → name.now ≢ make_name m)
+        (λ m. name.now ≡ make_name m) }
+{
     match name {
         b"map" => Some(Make::Map),
         b"lots" => Some(Make::Lots),

@@ -1,6 +1,8 @@
 //! Keys, symbols and numbers as they are written.
-ghost use Rattle.std.specs.Prelude.{◌≡◌, IfSome, IfOk, MatchOption};
-ghost use Rattle.plancheck.specs.Letters.{Letter, NoLetter, keyed, spelled};
+ghost use Rattle.std.specs.Prelude.{◌≡◌, ℕ, List, IfOk, MatchOption};
+ghost use Rattle.std.specs.List.{AllZip};
+ghost use Rattle.plancheck.specs.Letters.{Letter, NoLetter, CodeLetter, keyed, Spells};
+ghost use Rattle.plancheck.specs.Numbers.{Extends, Numbers};
 
 use keypad::key::Symbol;
 use std::alloc::{AllocError, Global};
@@ -32,7 +34,8 @@ fn symbol_of(key: u8, long: bool) -> Symbol
 
 // The symbols of a row such as `12Z3`, or none if a letter is no key's or a Z has no key behind it.
 pub fn read_row(heap: Global, text: &[u8]) -> Result<Option<Vec<Symbol>>, AllocError>
-    ensures { IfOk result (λ o. IfSome o (λ v. text.now ≡ spelled v.items)) }
+    ensures { IfOk result (λ o. MatchOption o ((ss : List Symbol) → Spells text.now ss → ⊥)
+        (λ v. Spells text.now v.items)) }
 {
     let mut row = Vec::new(heap);
     let mut long = false;
@@ -51,7 +54,9 @@ pub fn read_row(heap: Global, text: &[u8]) -> Result<Option<Vec<Symbol>>, AllocE
 }
 
 // The keys of a code. A letter that is no key's is kept as a number above all keys, which no plan takes.
-pub fn read_code(heap: Global, text: &[u8]) -> Result<Vec<u8>, AllocError> {
+pub fn read_code(heap: Global, text: &[u8]) -> Result<Vec<u8>, AllocError>
+    ensures { IfOk result (λ v. AllZip CodeLetter text.now v.items) }
+{
     let mut code = Vec::new(heap);
     for letter in text {
         code.push(key_of(*letter).unwrap_or(NO_KEY))?;
@@ -60,7 +65,9 @@ pub fn read_code(heap: Global, text: &[u8]) -> Result<Vec<u8>, AllocError> {
 }
 
 // The number with one more digit behind it, or none if the letter is no digit or 32 bits do not hold it.
-fn with_digit(number: u32, letter: u8) -> Option<u32> {
+fn with_digit(number: u32, letter: u8) -> Option<u32>
+    ensures { MatchOption result ((n : ℕ) → Extends number letter n → ⊥) (λ n. Extends number letter n) }
+{
     match letter {
         b'0'..=b'9' => number
             .checked_mul(10)?
@@ -70,11 +77,17 @@ fn with_digit(number: u32, letter: u8) -> Option<u32> {
 }
 
 // The numbers of a text with single blanks between them, or none if it is written in another way.
-pub fn read_numbers(heap: Global, text: &[u8]) -> Result<Option<Vec<u32>>, AllocError> {
+pub fn read_numbers(heap: Global, text: &[u8]) -> Result<Option<Vec<u32>>, AllocError>
+    ensures { IfOk result (λ o. MatchOption o ((ns : List ℕ) → Numbers text.now ns → ⊥)
+        (λ v. Numbers text.now v.items)) }
+{
     let mut numbers = Vec::new(heap);
     let mut begun = None;
     for letter in text {
-        if let (b' ', Some(number)) = (*letter, begun) {
+        if *letter == b' ' {
+            let Some(number) = begun else {
+                return Ok(None);
+            };
             numbers.push(number)?;
             begun = None;
             continue;

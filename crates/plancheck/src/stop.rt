@@ -1,3 +1,6 @@
+ghost use Rattle.std.specs.Prelude.{◌≡◌};
+ghost use Rattle.plancheck.specs.declared.stop.Stop.TheVariants.{Memory};
+
 use plans::refusal::Refusal;
 use std::alloc::AllocError;
 
@@ -10,6 +13,8 @@ pub enum Stop {
 }
 
 impl From<AllocError> for Stop {
+    ghost from_gives = { λ error r. r ≡ Memory error };
+
     fn from(error: AllocError) -> Stop {
         Stop::Memory(error)
     }

@@ -2,8 +2,11 @@
 ghost use Rattle.plan_report.specs.Rows.{RowTold};
 ghost use Rattle.plans.specs.Coded.{Behind};
 ghost use Rattle.plans.specs.Pairs.{Either};
-ghost use Rattle.std.specs.Prelude.{IfOk, string_bytes};
+ghost use Rattle.std.specs.Prelude.{IfOk, IfErr, string_bytes, MatchResult};
 ghost use Rattle.plancheck.specs.Makes.{entries_of};
+ghost use Rattle.plancheck.specs.Materials.{FitCode, materials};
+ghost use Rattle.plancheck.specs.Stops.{ForMemory, ForCode, Tried};
+ghost use Rattle.plancheck.specs.Stores.{store_of};
 
 use crate::kept::Kept;
 use crate::make::Make;
@@ -18,7 +21,8 @@ use std::alloc::Global;
 
 // One plan alone.
 fn tell_one<P: Plan + Drop>(heap: Global, plan: P, row: &[Symbol]) -> Result<String, Stop>
-    ensures { IfOk result (λ s. RowTold (P.Plan.whole plan) row.now (string_bytes s)) }
+    ensures stops { IfErr result ForMemory }
+    ensures told { IfOk result (λ s. RowTold (P.Plan.whole plan) row.now (string_bytes s)) }
 {
     let mut plan = plan;
     Ok(tell_row(heap, &mut plan, row)?)
@@ -31,7 +35,8 @@ fn tell_pair<P: Plan + Drop, Q: Plan + Drop>(
     second: Q,
     row: &[Symbol],
 ) -> Result<String, Stop>
-    ensures { IfOk result (λ s. RowTold (Either (P.Plan.whole first) (Q.Plan.whole second))
+    ensures stops { IfErr result ForMemory }
+    ensures told { IfOk result (λ s. RowTold (Either (P.Plan.whole first) (Q.Plan.whole second))
         row.now (string_bytes s)) }
 {
     let mut plan = PairPlan::new(first, second);
@@ -47,8 +52,10 @@ fn tell_coded<P: Plan + Drop>(
     part: P,
     row: &[Symbol],
 ) -> Result<String, Stop>
-    ensures { IfOk result (λ s. RowTold (Behind code.now (P.Plan.whole part)) row.now
-        (string_bytes s)) }
+    ensures cases { MatchResult result (λ _. FitCode code.now)
+        (λ stop. ForCode code.now stop) }
+    ensures told { IfOk result (λ s. RowTold (Behind code.now (P.Plan.whole part))
+        row.now (string_bytes s)) }
 {
     match CodedPlan::new(code, part) {
         Ok(coded) => {
@@ -69,7 +76,9 @@ fn tell_pair_coded<P: Plan + Drop, Q: Plan + Drop>(
     part: Q,
     row: &[Symbol],
 ) -> Result<String, Stop>
-    ensures { IfOk result (λ s. RowTold (Either (P.Plan.whole first) (Behind code.now
+    ensures cases { MatchResult result (λ _. FitCode code.now)
+        (λ stop. ForCode code.now stop) }
+    ensures told { IfOk result (λ s. RowTold (Either (P.Plan.whole first) (Behind code.now
         (Q.Plan.whole part))) row.now (string_bytes s)) }
 {
     match CodedPlan::new(code, part) {
@@ -92,7 +101,9 @@ fn tell_coded_pair<P: Plan + Drop, Q: Plan + Drop>(
     second: Q,
     row: &[Symbol],
 ) -> Result<String, Stop>
-    ensures { IfOk result (λ s. RowTold (Behind code.now (Either (P.Plan.whole first)
+    ensures cases { MatchResult result (λ _. FitCode code.now)
+        (λ stop. ForCode code.now stop) }
+    ensures told { IfOk result (λ s. RowTold (Behind code.now (Either (P.Plan.whole first)
         (Q.Plan.whole second))) row.now (string_bytes s)) }
 {
     match CodedPlan::new(code, PairPlan::new(first, second)) {
@@ -111,8 +122,9 @@ fn tell_coded_pair<P: Plan + Drop, Q: Plan + Drop>(
 
 // Makes the plan from what is kept, and tells each key of the row.
 pub fn tell(heap: Global, kept: &Kept, make: Make, row: &[Symbol]) -> Result<String, Stop>
-    ensures { IfOk result (λ s. RowTold (entries_of kept.now make) row.now
-        (string_bytes s)) }
+    ensures cases { Tried (store_of kept.now) (materials make) result }
+    ensures told { IfOk result (λ s. RowTold (entries_of (store_of kept.now) make)
+        row.now (string_bytes s)) }
 {
     let code = kept.code.as_slice();
     match make {

@@ -7,6 +7,8 @@ use Rattle.plancheck.specs.Makes.{mapped}
 use Rattle.plancheck.proofs.part.kept_map.Goals as goal
 
 pub returns-in-Some : goal.returns-in-Some
-returns-in-Some c =
-    subst (λ (o : Option Map). Same (whole_of c.new.result) (mapped o)) (sym c.in-Some.is)
-    c.new.ensures.whole
+returns-in-Some c = record {
+  cases = (c.in-Some.map, c.in-Some.is);
+  admits = subst (λ (o : Option Map). Same (whole_of c.new.result) (mapped o)) (sym c.in-Some.is)
+      c.new.ensures.whole;
+}

@@ -1,9 +1,15 @@
 -- A Z begins a symbol, a key ends one, and the last letter leaves none begun. Assumes nothing.
-use Rattle.std.proofs.Common.{◌≡◌, ◌+◌, Bool, List, [], ◌∷◌, ◌++◌, take, vec_items, sym, ap, ◌∙◌, subst}
+use Rattle.std.proofs.Common.{◌≡◌, ◌+◌, Bool, List, [], ◌∷◌, ◌++◌, vec_items, sym, ap, ◌∙◌, subst}
 use Rattle.keypad.specs.declared.key.Symbol.{Symbol}
-use Rattle.std.proofs.lemmas.List.{append-nil, take_all}
-use Rattle.plancheck.specs.Letters.{keyed, spelled}
-use Rattle.plancheck.proofs.Rows.{begun, row_z, row_key}
+use Rattle.plancheck.specs.Letters.{keyed}
+use Rattle.plancheck.proofs.Rows.{
+  RowReading,
+  reading_z,
+  reading_key,
+  reading_other,
+  reading_all,
+  reading_open,
+}
 use Rattle.plancheck.proofs.read.read_row.Goals as goal
 
 pub loop-letter-preserved-then-not-long : goal.loop-letter-preserved-then-not-long
@@ -11,29 +17,41 @@ loop-letter-preserved-then-not-long c =
     let text = c.args.text.now in
     let at = c.loop-letter.letter-index in
     let row : List Symbol = vec_items c.loop-letter.row in
-    row_z text at c.loop-letter-test.true row
-    (subst (λ (b : Bool). take at text ≡ spelled row ++ begun b) c.if-not-long.true
-    c.loop-letter.invariant)
+    reading_z text at c.loop-letter-test.true row
+    (subst (λ (b : Bool). RowReading text at row b) c.if-not-long.true c.loop-letter.invariant)
     c.if-letter-eq90.true
 
 pub loop-letter-preserved : goal.loop-letter-preserved
 loop-letter-preserved c =
+    let text = c.args.text.now in
+    let at = c.loop-letter.letter-index in
     let row : List Symbol = vec_items c.loop-letter.row in
     let key = c.in-Some.key in
     let long = c.loop-letter.long in
     let grown : vec_items c.push.new.self ≡ row ++ keyed key long ∷ [] =
     c.in_ok-push.ensures.items ∙ ap (λ (s : Symbol). row ++ s ∷ []) c.symbol_of.ensures in
-    let text = c.args.text.now in
-    let at = c.loop-letter.letter-index in
-    subst (λ (ss : List Symbol). take (at + 1) text ≡ spelled ss ++ []) (sym grown)
-    (row_key text at c.loop-letter-test.true row key long c.loop-letter.invariant
-    c.in-Some.ensures.1)
+    subst (λ (ss : List Symbol). RowReading text (at + 1) ss _) (sym grown)
+    (reading_key text at c.loop-letter-test.true row key long c.loop-letter.invariant
+    c.in-Some.ensures)
 
 pub returns-else-long : goal.returns-else-long
 returns-else-long c =
     let text = c.args.text.now in
     let at = c.loop-letter.letter-index in
     let row : List Symbol = vec_items c.loop-letter.row in
-    sym (take_all at text c.loop-letter-test.false)
-    ∙ subst (λ (b : Bool). take at text ≡ spelled row ++ begun b) c.if-long.false c.loop-letter.invariant
-    ∙ append-nil (spelled row)
+    reading_all text at c.loop-letter-test.false row
+    (subst (λ (b : Bool). RowReading text at row b) c.if-long.false c.loop-letter.invariant)
+
+pub returns-in_default : goal.returns-in_default
+returns-in_default c =
+    reading_other c.args.text.now c.loop-letter.letter-index c.loop-letter-test.true
+    (vec_items c.loop-letter.row) c.loop-letter.long c.loop-letter.invariant c.in_default.ensures
+    c.else-letter-eq90.either
+
+pub returns-then-long : goal.returns-then-long
+returns-then-long c =
+    let text = c.args.text.now in
+    let at = c.loop-letter.letter-index in
+    let row : List Symbol = vec_items c.loop-letter.row in
+    reading_open text at c.loop-letter-test.false row
+    (subst (λ (b : Bool). RowReading text at row b) c.if-long.true c.loop-letter.invariant)
