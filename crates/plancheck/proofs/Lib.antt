@@ -13,4 +13,3 @@ pub mod Blanks
 pub mod Replies
 pub mod Outcomes
 pub mod Transcripts
-pub mod Materials

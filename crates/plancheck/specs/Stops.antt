@@ -44,6 +44,11 @@ FirstUnfit k [] s = ForMemory s
 FirstUnfit k (m ∷ ms) s = Unfit k m s ⊎ (Fit k m × FirstUnfit k ms s)
 
 module _ {X : Type 0} where
+  -- a part was made of this: it comes about where this is fit, and else there is a reason
+  abbrev pub Supplied : Store → Material → Result X Stop → Type 0
+  Supplied k m (Ok x) = Fit k m
+  Supplied k m (Err s) = Unfit k m s
+
   -- a plan was tried of all this: it comes about where all is fit, and else there is a reason
   abbrev pub Tried : Store → List Material → Result X Stop → Type 0
   Tried k ms (Ok x) = AllFit k ms

@@ -4,7 +4,6 @@
 mod command;
 mod kept;
 mod make;
-mod part;
 mod read;
 mod run;
 mod split;

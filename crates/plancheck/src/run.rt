@@ -1,7 +1,7 @@
 //! What each line of an input gives.
 ghost use Rattle.map_report.specs.Lines.{lines};
 ghost use Rattle.std.specs.Prelude.{IfOk, string_bytes};
-ghost use Rattle.plancheck.specs.Outcomes.{StopTold, OutcomeTold, ShowLine};
+ghost use Rattle.plancheck.specs.Outcomes.{OutcomeTold, ShowLine};
 ghost use Rattle.plancheck.specs.Replies.{Gives};
 ghost use Rattle.plancheck.specs.Stores.{store_of, fresh};
 ghost use Rattle.plancheck.specs.Transcripts.{Answers, Transcript, Determined};
@@ -17,35 +17,19 @@ use map_report::escape::write_text;
 use map_report::line::first_line;
 use std::alloc::{AllocError, Global};
 
-// Why no plan is made: `no` and the refusal's number, or `no map`.
-fn stop_told(heap: Global, stop: Stop) -> Result<String, AllocError>
-    ensures { IfOk result (λ s. StopTold stop (string_bytes s)) }
-{
-    match stop {
-        Stop::Mapless => String::from_str(heap, "no map\n"),
-        Stop::Refused(refusal) => {
-            let number = refusal.number();
-            format!(in heap; "no {number}\n")
-        }
-        Stop::Memory(error) => Err(error),
-    }
-}
-
 // The lines of the keys, or why no plan is made.
 fn outcome(heap: Global, told: Result<String, Stop>) -> Result<String, AllocError>
     ensures { IfOk result (λ s. OutcomeTold told (string_bytes s)) }
 {
-    match told {
-        Ok(lines) => Ok(lines),
-        Err(stop) => stop_told(heap, stop),
-    }
+    told.or_else(|stop| stop.told(heap))
 }
 
 // Shows a plan: the line itself, and then what came of the row.
-fn show(heap: Global, kept: &Kept, line: &[u8], text: &[u8]) -> Result<String, AllocError>
+fn show(kept: &Kept, line: &[u8], text: &[u8]) -> Result<String, AllocError>
     ensures { IfOk result (λ s. ShowLine (store_of kept.now) line.now
         text.now (string_bytes s)) }
 {
+    let heap = kept.heap;
     let Some((name, keys)) = split_blank(text) else {
         return unknown(heap);
     };
@@ -58,27 +42,27 @@ fn show(heap: Global, kept: &Kept, line: &[u8], text: &[u8]) -> Result<String, A
     let mut out = String::new(heap);
     write_text(&mut out, line)?;
     out.push('\n')?;
-    let lines = outcome(heap, tell(heap, kept, make, &row))?;
+    let lines = outcome(heap, tell(kept, make, &row))?;
     out.push_str(lines.as_str())?;
     Ok(out)
 }
 
 // What one line gives.
-fn answer(heap: Global, kept: &mut Kept, line: &[u8]) -> Result<String, AllocError>
+fn answer(kept: &mut Kept, line: &[u8]) -> Result<String, AllocError>
     ensures { Gives (Answers (store_of kept.old) line.now) kept.old result
         kept.new }
 {
     let Some((word, text)) = split_blank(line) else {
-        return unknown(heap);
+        return unknown(kept.heap);
     };
     let Some(command) = command_of(word) else {
-        return unknown(heap);
+        return unknown(kept.heap);
     };
     match command {
-        Command::Map => kept.keep_map(heap, text),
-        Command::Lots => kept.keep_lots(heap, text),
-        Command::Code => kept.keep_code(heap, text),
-        Command::Show => show(heap, kept, line, text),
+        Command::Map => kept.keep_map(text),
+        Command::Lots => kept.keep_lots(text),
+        Command::Code => kept.keep_code(text),
+        Command::Show => show(kept, line, text),
     }
 }
 
@@ -91,7 +75,7 @@ pub fn answer_lines(heap: Global, input: &[u8]) -> Result<String, AllocError>
     let mut out = String::new(heap);
     let mut rest = input;
     while let Some((line, after)) = first_line(rest) {
-        let told = answer(heap, &mut kept, line)?;
+        let told = answer(&mut kept, line)?;
         out.push_str(told.as_str())?;
         rest = after;
     }
