@@ -1,8 +1,7 @@
 pub mod Told
 pub mod Rows
-pub mod Numbers
-pub mod Readings
 pub mod Codes
+pub mod Numbers
 pub mod Unique
 pub mod Alike
 pub mod Reasons

@@ -1,149 +1,194 @@
--- The numbers of a text behind a number that is begun. Assumes nothing.
-use Rattle.std.proofs.Common.{◌≡◌, ℕ, ◌+◌, ◌-◌, ◌*◌, ◌^◌, ◌<◌, ◌≤◌, List, [], ◌∷◌, ◌++◌, length, get_or, drop, Some, None, Option, unwrap_or, sym, refl, ap, ◌∙◌, subst, arith}
-use Rattle.std.specs.List.{AllByRecursion}
+-- Numbers, digit by digit and word by word. Assumes nothing.
+use Rattle.std.proofs.Common.{◌≡◌, ℕ, ◌+◌, ◌-◌, ◌*◌, ◌^◌, ◌<◌, ◌≤◌, true, false, ◌⊎◌, eqb, List, [], ◌∷◌, ◌++◌, length, get_or, take, drop, sym, refl, ap, ◌∙◌, subst, inl, inr, arith, ◌≢◌}
+use Rattle.std.proofs.ByRecursion.{All-push, All-get_or, All-weaker}
+use Rattle.std.proofs.lemmas.List.{take_more, take_all, drop_more, take-append-drop}
+use Rattle.std.proofs.lemmas.List.Elements.{All-from_recursion}
+use Rattle.std.proofs.lemmas.List.Splits.{slice_split_none, slice_split_at, length-slice_split}
+use Rattle.std.proofs.lemmas.Slice.Zip.{AllZip-long}
+use Rattle.std.proofs.lemmas.Bool.Decides.{nat_tests, eqb_tells}
+use Rattle.std.specs.List.{AllByRecursion, AllZip, slice_split}
 use Rattle.plancheck.specs.Numbers.{Digit, Extends, written, Decimal, Numbers}
-
--- word writes m behind the digits of n, and 32 bits hold it
-pub record Ends (n : ℕ) (word : List ℕ) (m : ℕ) : Type 0 where
-  pub digits : AllByRecursion Digit word
-  pub value : written n word ≡ m
-  pub fits : m < 2 ^ 32
-
--- the numbers of what is left of a text, where the first of them is begun with the digits of n
-abbrev pub Behind : ℕ → List ℕ → List ℕ → Type 0
-Behind n left [] = ⊥
-Behind n left (m ∷ []) = Ends n left m
-Behind n left (m ∷ k ∷ ns) =
-    (word : List ℕ) × (rest : List ℕ) × Ends n word m × Numbers rest (k ∷ ns) × (left ≡ word ++ 32 ∷ rest)
-
--- the numbers of what is left of a text, where a number is begun or none is
-abbrev pub From : Option ℕ → List ℕ → List ℕ → Type 0
-From None left ns = Numbers left ns
-From (Some n) left ns = Behind n left ns
 
 -- more digits make no number smaller
 written_grows : (n : ℕ) (w : List ℕ) → n ≤ written n w
 written_grows n [] = omega arith
 written_grows n (b ∷ w) = let h = written_grows (n * 10 + (b - 48)) w in omega arith
 
--- one digit in front
-ends_more : (n b m : ℕ) (w : List ℕ) (k : ℕ) → Extends n b m → Ends m w k → Ends n (b ∷ w) k
-ends_more n b m w k e h = record {
-  digits = (e.digit, h.digits);
-  value = ap (λ x. written x w) (sym e.value) ∙ h.value;
-  fits = h.fits;
-}
+written_append : (n : ℕ) (v w : List ℕ) → written n (v ++ w) ≡ written (written n v) w
+written_append n [] w = refl
+written_append n (b ∷ v) w = written_append (n * 10 + (b - 48)) v w
 
--- the digit in front, and the others
-ends_less : (n b : ℕ) (w : List ℕ) (k : ℕ) → Ends n (b ∷ w) k →
-    Extends n b (n * 10 + (b - 48)) × Ends (n * 10 + (b - 48)) w k
-ends_less n b w k h =
-    let grows = written_grows (n * 10 + (b - 48)) w in (
-      record { digit = h.digits.0; value = refl; fits = omega (arith, grows, h.value, h.fits) },
-      record { digits = h.digits.1; value = h.value; fits = h.fits },
-    )
+module _ (word : List ℕ) where
+  -- the first i letters of a word are the digits of n
+  pub record WordReading (i n : ℕ) : Type 0 where
+    pub digits : AllByRecursion Digit (take i word)
+    pub value : written 0 (take i word) ≡ n
+    pub fits : n < 2 ^ 32
 
--- a number that is not begun ends as one that is begun with 0
-decimal_ends : (w : List ℕ) (n : ℕ) → Decimal w n → Ends 0 w n
-decimal_ends w n h = record { digits = h.digits; value = h.value; fits = h.fits }
+  module _ (i n : ℕ) (inside : i < length word) where
+    -- a digit more
+    pub reading_digit : (m : ℕ) → Extends n (get_or word i 0) m → WordReading i n → WordReading (i + 1) m
+    reading_digit m e h =
+        let grown = take_more word i 0 inside in
+        record {
+          digits = subst (AllByRecursion Digit) (sym grown) (All-push Digit (take i word) (get_or word i 0)
+              h.digits e.digit);
+          value = ap (written 0) grown ∙ written_append 0 (take i word) (get_or word i 0 ∷ [])
+              ∙ ap (λ k. k * 10 + (get_or word i 0 - 48)) h.value ∙ sym e.value;
+          fits = e.fits;
+        }
 
-ends_decimal : (b : ℕ) (w : List ℕ) (n : ℕ) → Ends 0 (b ∷ w) n → Decimal (b ∷ w) n
-ends_decimal b w n h = record { some = omega arith; digits = h.digits; value = h.value; fits = h.fits }
+    -- a letter that is none, or one digit too much
+    pub reading_refused : ((m : ℕ) → Extends n (get_or word i 0) m → ⊥) → WordReading i n → (m : ℕ) →
+        Decimal word m → ⊥
+    reading_refused none h m k =
+        let b = get_or word i 0 in
+        let whole : take i word ++ b ∷ drop (i + 1) word ≡ word =
+        ap (λ (bs : List ℕ). take i word ++ bs) (sym (drop_more word i 0 inside))
+        ∙ take-append-drop i word in
+        let value : written (written 0 (take i word) * 10 + (b - 48)) (drop (i + 1) word) ≡ m =
+        sym (written_append 0 (take i word) (b ∷ drop (i + 1) word)) ∙ ap (written 0) whole ∙ k.value in
+        let value_here : written (n * 10 + (b - 48)) (drop (i + 1) word) ≡ m =
+        ap (λ x. written (x * 10 + (b - 48)) (drop (i + 1) word)) (sym h.value) ∙ value in
+        let grows = written_grows (n * 10 + (b - 48)) (drop (i + 1) word) in
+        let fits : n * 10 + (b - 48) < 2 ^ 32 = omega (arith, grows, value_here, k.fits) in
+        none (n * 10 + (b - 48))
+        (record { digit = All-get_or Digit word i 0 inside k.digits; value = refl; fits = fits })
 
--- whatever is begun, the numbers are those behind its value
-pub from_behind : (o : Option ℕ) (left ms : List ℕ) → From o left ms → Behind (unwrap_or o 0) left ms
-from_behind (Some n) left ms h = h
-from_behind None left [] h = h
-from_behind None left (m ∷ []) h = decimal_ends left m h
-from_behind None left (m ∷ k ∷ ks) h = (h.0, h.1, decimal_ends h.0 m h.2, h.3, h.4)
+  -- all digits are read
+  pub reading_word : (i n : ℕ) → 0 < length word → length word ≤ i → WordReading i n → Decimal word n
+  reading_word i n some over h =
+      let all = take_all i word over in
+      record {
+        some = some;
+        digits = subst (AllByRecursion Digit) all h.digits;
+        value = ap (written 0) (sym all) ∙ h.value;
+        fits = h.fits;
+      }
 
--- a blank ends no digit
-no_blank : (b : ℕ) → Digit b → b ≡ 32 → ⊥
-no_blank b d e = omega (arith, d.0, e)
+-- the words between the blanks of a text
+abbrev pub words : List ℕ → List (List ℕ)
+words bs = slice_split (λ b. eqb b 32) bs
 
--- the first word of a text that begins with a digit
-behind_from_word : (word rest : List ℕ) (b m k : ℕ) (left ks : List ℕ) → Digit b → Ends 0 word m →
-    Numbers rest (k ∷ ks) → b ∷ left ≡ word ++ 32 ∷ rest → Numbers (b ∷ left) (m ∷ k ∷ ks)
-behind_from_word [] rest b m k left ks d h ns e =
-    let blank : b ≡ 32 = cc in absurd (no_blank b d blank)
-behind_from_word (c ∷ w) rest b m k left ks d h ns e = (c ∷ w, rest, ends_decimal c w m h, ns, e)
+abbrev NoBlank : ℕ → Type 0
+NoBlank b = eqb b 32 ≡ false
 
--- a text that begins with a digit has the same numbers behind nothing and behind 0
-pub behind_from : (o : Option ℕ) (b : ℕ) (left ms : List ℕ) → Digit b → Behind (unwrap_or o 0) (b ∷ left) ms →
-    From o (b ∷ left) ms
-behind_from (Some n) b left ms d h = h
-behind_from None b left [] d h = h
-behind_from None b left (m ∷ []) d h = ends_decimal b left m h
-behind_from None b left (m ∷ k ∷ ks) d h = behind_from_word h.0 h.1 b m k left ks d h.2 h.3 h.4
+digit_no_blank : (b : ℕ) → Digit b → NoBlank b
+digit_no_blank b d = grind (arith, nat_tests)
 
--- one digit in front of a text
-pub behind_more : (n b m : ℕ) (left ms : List ℕ) → Extends n b m → Behind m left ms → Behind n (b ∷ left) ms
-behind_more n b m left [] e h = h
-behind_more n b m left (k ∷ []) e h = ends_more n b m left k e h
-behind_more n b m left (k ∷ j ∷ js) e h =
-    (b ∷ h.0, h.1, ends_more n b m h.0 k e h.2, h.3, ap (λ (bs : List ℕ). b ∷ bs) h.4)
+digits_unparted : (w : List ℕ) → AllByRecursion Digit w → AllByRecursion NoBlank w
+digits_unparted w h = All-weaker Digit NoBlank digit_no_blank w h
 
-module _ (n b : ℕ) (left : List ℕ) where
-  -- what is left behind a letter that is no blank
-  abbrev Later : List ℕ → Type 0
-  Later ms = Extends n b (n * 10 + (b - 48)) × Behind (n * 10 + (b - 48)) left ms
+-- a text without blanks is one word
+words_one : (text : List ℕ) → AllByRecursion NoBlank text → words text ≡ text ∷ []
+words_one text h = slice_split_none (λ b. eqb b 32) text (All-from_recursion NoBlank text h)
 
-  later_word : (word rest : List ℕ) (m k : ℕ) (ks : List ℕ) → (b ≡ 32 → ⊥) → Ends n word m →
-      Numbers rest (k ∷ ks) → b ∷ left ≡ word ++ 32 ∷ rest → Later (m ∷ k ∷ ks)
-  later_word [] rest m k ks other h ns e = let blank : b ≡ 32 = cc in absurd (other blank)
-  later_word (c ∷ w) rest m k ks other h ns e =
-      let first : c ≡ b = cc in
-      let behind : left ≡ w ++ 32 ∷ rest = cc in
-      let parts = ends_less n b w m (subst (λ x. Ends n (x ∷ w) m) first h) in
-      (parts.0, (w, rest, parts.1, ns, behind))
+-- the first word ends at the first blank
+words_first : (text w r : List ℕ) → AllByRecursion NoBlank w → text ≡ w ++ 32 ∷ r → words text ≡ w ∷ words r
+words_first text w r h e =
+    ap words e ∙ slice_split_at (λ b. eqb b 32) w 32 r (All-from_recursion NoBlank w h) refl
 
-  -- a letter that is no blank is a digit, and the numbers go on behind it
-  pub behind_less : (ms : List ℕ) → (b ≡ 32 → ⊥) → Behind n (b ∷ left) ms → Later ms
-  behind_less [] other h = absurd h
-  behind_less (m ∷ []) other h = ends_less n b left m h
-  behind_less (m ∷ k ∷ ks) other h = later_word h.0 h.1 m k ks other h.2 h.3 h.4
+-- each number is a word
+pub numbers_words : (text ns : List ℕ) → Numbers text ns → AllZip Decimal (words text) ns
+numbers_words text [] h = absurd h
+numbers_words text (n ∷ []) h =
+    subst (λ (ws : List (List ℕ)). AllZip Decimal ws (n ∷ []))
+    (sym (words_one text (digits_unparted text h.digits))) (h, tt)
+numbers_words text (n ∷ m ∷ ns) h =
+    subst (λ (ws : List (List ℕ)). AllZip Decimal ws (n ∷ m ∷ ns))
+    (sym (words_first text h.0 h.1 (digits_unparted h.0 h.2.digits) h.4))
+    (h.2, numbers_words h.1 (m ∷ ns) h.3)
 
-  blank_word : (word rest : List ℕ) (m k : ℕ) (ks : List ℕ) → Ends n word m → Numbers rest (k ∷ ks) →
-      32 ∷ left ≡ word ++ 32 ∷ rest → (js : List ℕ) × Numbers left js
-  blank_word [] rest m k ks h ns e =
-      let same : rest ≡ left = cc in
-      (k ∷ ks, subst (λ (bs : List ℕ). Numbers bs (k ∷ ks)) same ns)
-  blank_word (c ∷ w) rest m k ks h ns e =
-      let blank : c ≡ 32 = cc in absurd (no_blank c h.digits.0 blank)
+-- a text has a first blank, or none
+abbrev Blanked : List ℕ → Type 0
+Blanked text =
+    AllByRecursion NoBlank text
+    ⊎ ((w : List ℕ) × (r : List ℕ) × AllByRecursion NoBlank w × (text ≡ w ++ 32 ∷ r))
 
-  -- a blank behind a number ends it, and the numbers go on behind it
-  pub blank_less : (ms : List ℕ) → Behind n (32 ∷ left) ms → (js : List ℕ) × Numbers left js
-  blank_less [] h = absurd h
-  blank_less (m ∷ []) h = absurd (no_blank 32 h.digits.0 refl)
-  blank_less (m ∷ k ∷ ks) h = blank_word h.0 h.1 m k ks h.2 h.3 h.4
+blanked_more : (b : ℕ) (bs : List ℕ) → ((eqb b 32 ≡ true) × (b ≡ 32)) ⊎ ((eqb b 32 ≡ false) × (b ≢ 32)) →
+    Blanked bs → Blanked (b ∷ bs)
+blanked_more b bs (inl x) h = inr ([], bs, tt, ap (λ c. c ∷ bs) x.1)
+blanked_more b bs (inr x) (inl h) = inl (x.0, h)
+blanked_more b bs (inr x) (inr h) = inr (b ∷ h.0, h.1, (x.0, h.2), ap (λ (cs : List ℕ). b ∷ cs) h.3)
 
--- a number that is begun ends at a blank
-pub blank_more : (n : ℕ) (left ms : List ℕ) → n < 2 ^ 32 → Numbers left ms → Behind n (32 ∷ left) (n ∷ ms)
-blank_more n left [] small h = absurd h
-blank_more n left (m ∷ ms) small h =
-    ([], left, record { digits = tt; value = refl; fits = small }, h, refl)
+blanked : (text : List ℕ) → Blanked text
+blanked [] = inl tt
+blanked (b ∷ bs) = blanked_more b bs (eqb_tells b 32) (blanked bs)
 
--- a text of numbers begins with a digit
-first_word : (word rest : List ℕ) (b m : ℕ) (left : List ℕ) → Decimal word m → b ∷ left ≡ word ++ 32 ∷ rest →
-    b ≡ 32 → ⊥
-first_word [] rest b m left h e blank = omega (arith, h.some)
-first_word (c ∷ w) rest b m left h e blank =
-    let same : c ≡ 32 = cc in no_blank c h.digits.0 same
+-- a text has a word at least
+some_word : (text : List ℕ) → AllZip Decimal (words text) [] → ⊥
+some_word text h =
+    let long = length-slice_split (λ b. eqb b 32) text in
+    let none = AllZip-long Decimal (words text) [] h in
+    omega arith
 
-pub first_digit : (b : ℕ) (left ms : List ℕ) → Numbers (b ∷ left) ms → b ≡ 32 → ⊥
-first_digit b left [] h blank = h
-first_digit b left (m ∷ []) h blank = no_blank b h.digits.0 blank
-first_digit b left (m ∷ k ∷ ks) h blank = first_word h.0 h.1 b m left h.2 h.4 blank
+one_word : (text : List ℕ) (n : ℕ) → Blanked text → AllZip Decimal (words text) (n ∷ []) → Decimal text n
+one_word text n (inl none) h =
+    let k = subst (λ (ws : List (List ℕ)). AllZip Decimal ws (n ∷ [])) (words_one text none) h in k.0
+one_word text n (inr p) h =
+    let k = subst (λ (ws : List (List ℕ)). AllZip Decimal ws (n ∷ [])) (words_first text p.0 p.1 p.2 p.3) h in
+    absurd (some_word p.1 k.1)
 
--- a text of numbers is not empty
-no_word : (word rest : List ℕ) → [] ≡ word ++ 32 ∷ rest → ⊥
-no_word [] rest e = let z : ◌≡◌ {A = ℕ} 0 1 = cc in omega arith
-no_word (c ∷ w) rest e = let z : ◌≡◌ {A = ℕ} 0 1 = cc in omega arith
+more_words : (text : List ℕ) (n m : ℕ) (ns : List ℕ) →
+    ((r : List ℕ) → AllZip Decimal (words r) (m ∷ ns) → Numbers r (m ∷ ns)) → Blanked text →
+    AllZip Decimal (words text) (n ∷ m ∷ ns) → Numbers text (n ∷ m ∷ ns)
+more_words text n m ns rest (inl none) h =
+    let k = subst (λ (ws : List (List ℕ)). AllZip Decimal ws (n ∷ m ∷ ns)) (words_one text none) h in
+    absurd k.1
+more_words text n m ns rest (inr p) h =
+    let k = subst (λ (ws : List (List ℕ)). AllZip Decimal ws (n ∷ m ∷ ns)) (words_first text p.0 p.1 p.2 p.3)
+    h in
+    (p.0, p.1, k.0, rest p.1 k.1, p.3)
 
-pub numbers_some : (ms : List ℕ) → Numbers [] ms → ⊥
-numbers_some [] h = h
-numbers_some (m ∷ []) h = omega (arith, h.some)
-numbers_some (m ∷ k ∷ ks) h = no_word h.0 h.1 h.4
+-- words that are numbers make a text of numbers
+words_numbers : (text ns : List ℕ) → AllZip Decimal (words text) ns → Numbers text ns
+words_numbers text [] h = some_word text h
+words_numbers text (n ∷ []) h = one_word text n (blanked text) h
+words_numbers text (n ∷ m ∷ ns) h = more_words text n m ns (λ r k. words_numbers r (m ∷ ns) k) (blanked text) h
+
+zip_push : (ws : List (List ℕ)) (ns : List ℕ) (w : List ℕ) (n : ℕ) → AllZip Decimal ws ns → Decimal w n →
+    AllZip Decimal (ws ++ w ∷ []) (ns ++ n ∷ [])
+zip_push [] [] w n h d = (d, tt)
+zip_push [] (m ∷ ns) w n h d = absurd h
+zip_push (v ∷ ws) [] w n h d = absurd h
+zip_push (v ∷ ws) (m ∷ ns) w n h d = (h.0, zip_push ws ns w n h.1 d)
+
+zip_at : (vs us : List (List ℕ)) (w : List ℕ) (ns : List ℕ) → AllZip Decimal (vs ++ w ∷ us) ns →
+    (n : ℕ) × Decimal w n
+zip_at [] us w [] h = absurd h
+zip_at [] us w (n ∷ ns) h = (n, h.0)
+zip_at (v ∷ vs) us w [] h = absurd h
+zip_at (v ∷ vs) us w (n ∷ ns) h = zip_at vs us w ns h.1
+
+module _ (text : List ℕ) (i : ℕ) (word : List ℕ) where
+  module _ (turn : (i < length (words text)) × (word ≡ get_or (words text) i word)) where
+    -- a word more
+    pub words_more : (ns : List ℕ) (n : ℕ) → Decimal word n → AllZip Decimal (take i (words text)) ns →
+        AllZip Decimal (take (i + 1) (words text)) (ns ++ n ∷ [])
+    words_more ns n d h =
+        let ws = words text in
+        let grown : take (i + 1) ws ≡ take i ws ++ word ∷ [] =
+        take_more ws i word turn.0 ∙ ap (λ (w : List ℕ). take i ws ++ w ∷ []) (sym turn.1) in
+        subst (λ (vs : List (List ℕ)). AllZip Decimal vs (ns ++ n ∷ [])) (sym grown)
+        (zip_push (take i ws) ns word n h d)
+
+    -- a word that is no number
+    pub words_refused : ((n : ℕ) → Decimal word n → ⊥) → (ns : List ℕ) → Numbers text ns → ⊥
+    words_refused none ns h =
+        let ws = words text in
+        let here : ws ≡ take i ws ++ word ∷ drop (i + 1) ws =
+        sym (take-append-drop i ws) ∙ ap (λ (us : List (List ℕ)). take i ws ++ us)
+        (drop_more ws i word turn.0 ∙ ap (λ (w : List ℕ). w ∷ drop (i + 1) ws) (sym turn.1)) in
+        let found = zip_at (take i ws) (drop (i + 1) ws) word ns
+        (subst (λ (us : List (List ℕ)). AllZip Decimal us ns) here (numbers_words text ns h)) in
+        none found.0 found.1
+
+-- all words are read
+pub words_all : (text ns : List ℕ) (i : ℕ) → length (words text) ≤ i →
+    AllZip Decimal (take i (words text)) ns → Numbers text ns
+words_all text ns i over h =
+    words_numbers text ns
+    (subst (λ (ws : List (List ℕ)). AllZip Decimal ws ns) (take_all i (words text) over) h)
 
 -- numbers are one or more
 pub numbers_length : (bs ns : List ℕ) → Numbers bs ns → 0 < length ns

@@ -1,5 +1,5 @@
 -- Keys and symbols as they are written. Assumes nothing.
-use Rattle.std.specs.Prelude.{◌≡◌, ℕ, ◌<◌, Bool, true, false, ◌⊎◌, List, [], ◌∷◌, ◌++◌}
+use Rattle.std.specs.Prelude.{◌≡◌, ℕ, ◌<◌, ◌⊎◌, List, [], ◌∷◌, ◌++◌}
 use Rattle.keypad.specs.declared.key.Symbol.{Symbol}
 use Rattle.keypad.specs.declared.key.Symbol.TheVariants.{Plain, Long}
 use Rattle.plan_report.specs.Words.{key_code, named}
@@ -17,11 +17,6 @@ NoLetter b = (k : ℕ) → Letter b k → ⊥
 abbrev pub CodeLetter : ℕ → ℕ → Type 0
 CodeLetter b n = Letter b n ⊎ (NoLetter b × (n ≡ 16))
 
--- a key as a symbol, held long or not
-abbrev pub keyed : ℕ → Bool → Symbol
-keyed k true = Long k
-keyed k false = Plain k
-
 -- the symbols of a row, one behind another
 abbrev pub spelled : List Symbol → List ℕ
 spelled [] = []
@@ -31,6 +26,15 @@ spelled (s ∷ ss) = named s ++ spelled ss
 abbrev pub OfKey : Symbol → Type 0
 OfKey (Plain k) = k < 16
 OfKey (Long k) = k < 16
+
+-- bs begins with the symbol of a key, and rest stands behind it
+pub record Begins (bs : List ℕ) (s : Symbol) (rest : List ℕ) : Type 0 where
+  pub key : OfKey s
+  pub letters : bs ≡ named s ++ rest
+
+-- bs begins with no symbol of a key
+abbrev pub NoSymbol : List ℕ → Type 0
+NoSymbol bs = (s : Symbol) (rest : List ℕ) → Begins bs s rest → ⊥
 
 -- bs has the symbols of a row, one behind another, each of them of a key
 pub record Spells (bs : List ℕ) (ss : List Symbol) : Type 0 where

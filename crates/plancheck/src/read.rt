@@ -1,13 +1,14 @@
 //! Keys, symbols and numbers as they are written.
-ghost use Rattle.std.specs.Prelude.{◌≡◌, ℕ, List, IfOk, MatchOption};
+ghost use Rattle.std.specs.Prelude.{ℕ, List, IfOk, MatchOption};
 ghost use Rattle.std.specs.List.{AllZip};
-ghost use Rattle.plancheck.specs.Letters.{Letter, NoLetter, CodeLetter, keyed, Spells};
-ghost use Rattle.plancheck.specs.Numbers.{Extends, Numbers};
+ghost use Rattle.plancheck.specs.Letters.{Letter, NoLetter, CodeLetter, Begins, NoSymbol, Spells};
+ghost use Rattle.plancheck.specs.Numbers.{Extends, Decimal, Numbers};
 
 use keypad::key::Symbol;
 use std::alloc::{AllocError, Global};
 
-// A number that is no key's.
+// A number that is no key's. A plan is made over numbers and refuses this one, so an Option for each key
+// would only be turned back into it.
 const NO_KEY: u8 = 16;
 
 // The key that a letter stands for: 0 to 9 and A to F.
@@ -21,14 +22,14 @@ fn key_of(letter: u8) -> Option<u8>
     }
 }
 
-// A key as a symbol.
-fn symbol_of(key: u8, long: bool) -> Symbol
-    ensures { result ≡ keyed key long }
+// The symbol with which a text begins, and what stands behind it.
+fn first_symbol(text: &[u8]) -> Option<(Symbol, &[u8])>
+    ensures { MatchOption result (NoSymbol text.now) (λ x. Begins text.now x.0 x.1.now) }
 {
-    if long {
-        Symbol::Long(key)
-    } else {
-        Symbol::Plain(key)
+    match text {
+        [b'Z', letter, rest @ ..] => Some((Symbol::Long(key_of(*letter)?), rest)),
+        [letter, rest @ ..] => Some((Symbol::Plain(key_of(*letter)?), rest)),
+        [] => None,
     }
 }
 
@@ -38,42 +39,48 @@ pub fn read_row(heap: Global, text: &[u8]) -> Result<Option<Vec<Symbol>>, AllocE
         (λ v. Spells text.now v.items)) }
 {
     let mut row = Vec::new(heap);
-    let mut long = false;
-    for letter in text {
-        if *letter == b'Z' && !long {
-            long = true;
-            continue;
-        }
-        let Some(key) = key_of(*letter) else {
-            return Ok(None);
-        };
-        row.push(symbol_of(key, long))?;
-        long = false;
+    let mut rest = text;
+    while let Some((symbol, after)) = first_symbol(rest) {
+        row.push(symbol)?;
+        rest = after;
     }
-    if long { Ok(None) } else { Ok(Some(row)) }
+    Ok(rest.is_empty().then_some(row))
 }
 
-// The keys of a code. A letter that is no key's is kept as a number above all keys, which no plan takes.
+// What a code keeps of a letter: its key, or a number above all keys, which no plan takes.
+fn code_key(letter: u8) -> u8
+    ensures { CodeLetter letter result }
+{
+    key_of(letter).unwrap_or(NO_KEY)
+}
+
+// The keys of a code.
 pub fn read_code(heap: Global, text: &[u8]) -> Result<Vec<u8>, AllocError>
     ensures { IfOk result (λ v. AllZip CodeLetter text.now v.items) }
 {
-    let mut code = Vec::new(heap);
-    for letter in text {
-        code.push(key_of(*letter).unwrap_or(NO_KEY))?;
-    }
-    Ok(code)
+    text.iter().map(|letter| code_key(*letter)).collect(heap)
 }
 
 // The number with one more digit behind it, or none if the letter is no digit or 32 bits do not hold it.
 fn with_digit(number: u32, letter: u8) -> Option<u32>
     ensures { MatchOption result ((n : ℕ) → Extends number letter n → ⊥) (λ n. Extends number letter n) }
 {
-    match letter {
-        b'0'..=b'9' => number
-            .checked_mul(10)?
-            .checked_add(u32::from(letter - b'0')),
-        _ => None,
+    let digit = char::from(letter).to_digit(10)?;
+    number.checked_mul(10)?.checked_add(digit)
+}
+
+// The number that a word is in decimal, or none if it is not written so or 32 bits do not hold it.
+fn number_of(word: &[u8]) -> Option<u32>
+    ensures { MatchOption result ((n : ℕ) → Decimal word.now n → ⊥) (λ n. Decimal word.now n) }
+{
+    if word.is_empty() {
+        return None;
     }
+    let mut number = 0;
+    for letter in word {
+        number = with_digit(number, *letter)?;
+    }
+    Some(number)
 }
 
 // The numbers of a text with single blanks between them, or none if it is written in another way.
@@ -82,24 +89,11 @@ pub fn read_numbers(heap: Global, text: &[u8]) -> Result<Option<Vec<u32>>, Alloc
         (λ v. Numbers text.now v.items)) }
 {
     let mut numbers = Vec::new(heap);
-    let mut begun = None;
-    for letter in text {
-        if *letter == b' ' {
-            let Some(number) = begun else {
-                return Ok(None);
-            };
-            numbers.push(number)?;
-            begun = None;
-            continue;
-        }
-        begun = with_digit(begun.unwrap_or(0), *letter);
-        if begun.is_none() {
+    for word in text.split(|letter| *letter == b' ') {
+        let Some(number) = number_of(word) else {
             return Ok(None);
-        }
+        };
+        numbers.push(number)?;
     }
-    let Some(number) = begun else {
-        return Ok(None);
-    };
-    numbers.push(number)?;
     Ok(Some(numbers))
 }

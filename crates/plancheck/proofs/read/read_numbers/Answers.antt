@@ -1,76 +1,42 @@
--- A blank ends a number, a digit grows or begins one, and the last letter leaves one begun. Assumes nothing.
-use Rattle.std.proofs.Common.{ℕ, ◌+◌, List, get_or, drop, vec_items, Option, sym, subst}
-use Rattle.std.proofs.lemmas.List.{drop_more, drop_all}
-use Rattle.plancheck.specs.Numbers.{Numbers}
-use Rattle.plancheck.proofs.Readings.{
-  Tried,
-  Reading,
-  reading_blank,
-  reading_gap,
-  reading_taken,
-  reading_refused,
-  reading_last,
-  reading_end,
-}
+-- Each word between the blanks is a number, or the text is none of numbers. Assumes nothing.
+use Rattle.std.proofs.Common.{ℕ, ◌+◌, eqb, List, length, take, vec_items, sym, subst, arith, rules, tests}
+use Rattle.std.proofs.lemmas.Iterator.Consumers.{YieldsList-at, YieldsList-turn, YieldsList-end}
+use Rattle.std.proofs.lemmas.Iterator.Splits.{YieldsList-from_slice_split}
+use Rattle.std.proofs.lemmas.List.{length_push}
+use Rattle.std.specs.List.{AllZip}
+use Rattle.plancheck.specs.Numbers.{Decimal}
+use Rattle.plancheck.proofs.Numbers.{words, words_more, words_refused, words_all}
 use Rattle.plancheck.proofs.read.read_numbers.Goals as goal
-
-pub loop-letter-preserved-then-letter-eq32 : goal.loop-letter-preserved-then-letter-eq32
-loop-letter-preserved-then-letter-eq32 c =
-    let text = c.args.text.now in
-    let at = c.loop-letter.letter-index in
-    let done = vec_items c.loop-letter.numbers in
-    let number = c.in-Some.number in
-    subst (λ (ns : List ℕ). Reading text ns (drop (at + 1) text) _)
-    (sym c.in_ok-push.ensures.items)
-    (reading_blank text done (drop at text) (drop (at + 1) text) (get_or text at 0)
-    (drop_more text at 0 c.loop-letter-test.true) number c.if-letter-eq32.true
-    (subst (λ (o : Option ℕ). Reading text done (drop at text) o) c.in-Some.is c.loop-letter.invariant))
 
 pub returns-in_default : goal.returns-in_default
 returns-in_default c =
     let text = c.args.text.now in
-    let at = c.loop-letter.letter-index in
-    let done = vec_items c.loop-letter.numbers in
-    reading_gap text done (drop at text) (drop (at + 1) text) (get_or text at 0)
-    (drop_more text at 0 c.loop-letter-test.true) c.if-letter-eq32.true
-    (subst (λ (o : Option ℕ). Reading text done (drop at text) o) c.in_default.is c.loop-letter.invariant)
+    let turn = YieldsList-turn (YieldsList-at c.into_iter-word-iterator.ensures.into_iter_gives
+    (YieldsList-from_slice_split _ (λ b. eqb b 32) text c.split-word-items.ensures.rest c.split-word-items.ensures.done
+    c.split-word-items.ensures.closure (λ x r q k. search (rules, tests))))
+    c.loop-word.yielded _ c.loop-word.yielded_by _ _ c.in-Some.word c.in-Some.is c.next.ensures.steps in
+    words_refused text (length c.loop-word.yielded) c.in-Some.word.now turn c.in_default.ensures
 
-pub returns-then-is_none : goal.returns-then-is_none
-returns-then-is_none c =
+pub loop-word-preserved : goal.loop-word-preserved
+loop-word-preserved c =
     let text = c.args.text.now in
-    let at = c.loop-letter.letter-index in
-    let tried = subst (λ n. Tried c.with_digit-begun.result n (get_or text at 0)) c.unwrap_or.ensures
-    c.with_digit-begun.ensures in
-    reading_refused text (vec_items c.loop-letter.numbers) (drop at text) (drop (at + 1) text)
-    (get_or text at 0) (drop_more text at 0 c.loop-letter-test.true) c.loop-letter.begun _
-    c.if-letter-eq32.false tried c.if-is_none.ensures c.loop-letter.invariant
-
-pub loop-letter-preserved : goal.loop-letter-preserved
-loop-letter-preserved c =
-    let text = c.args.text.now in
-    let at = c.loop-letter.letter-index in
-    let tried = subst (λ n. Tried c.with_digit-begun.result n (get_or text at 0)) c.unwrap_or.ensures
-    c.with_digit-begun.ensures in
-    reading_taken text (vec_items c.loop-letter.numbers) (drop at text) (drop (at + 1) text)
-    (get_or text at 0) (drop_more text at 0 c.loop-letter-test.true) c.loop-letter.begun _
-    c.if-letter-eq32.false tried c.if-is_none.ensures c.loop-letter.invariant
-
-pub returns-in_default-begun : goal.returns-in_default-begun
-returns-in_default-begun c =
-    let text = c.args.text.now in
-    let at = c.loop-letter.letter-index in
-    let done = vec_items c.loop-letter.numbers in
-    reading_end text done (drop at text) (drop_all at text c.loop-letter-test.false)
-    (subst (λ (o : Option ℕ). Reading text done (drop at text) o) c.in_default-begun.is
-    c.loop-letter.invariant)
+    let turn = YieldsList-turn (YieldsList-at c.into_iter-word-iterator.ensures.into_iter_gives
+    (YieldsList-from_slice_split _ (λ b. eqb b 32) text c.split-word-items.ensures.rest c.split-word-items.ensures.done
+    c.split-word-items.ensures.closure (λ x r q k. search (rules, tests))))
+    c.loop-word.yielded _ c.loop-word.yielded_by _ _ c.in-Some.word c.in-Some.is c.next.ensures.steps in
+    subst (λ i. AllZip Decimal (take i (words text)) (vec_items c.push.new.self))
+    (sym (length_push c.loop-word.yielded c.in-Some.word))
+    (subst (λ (ns : List ℕ). AllZip Decimal (take (length c.loop-word.yielded + 1) (words text)) ns)
+    (sym c.in_ok-push.ensures.items)
+    (words_more text (length c.loop-word.yielded) c.in-Some.word.now turn (vec_items c.loop-word.numbers)
+    c.in-Some-number_of.number c.in-Some-number_of.ensures c.loop-word.invariant))
 
 pub returns : goal.returns
 returns c =
     let text = c.args.text.now in
-    let at = c.loop-letter.letter-index in
-    let done = vec_items c.loop-letter.numbers in
-    let number = c.in-Some-begun.number in
-    subst (λ (ns : List ℕ). Numbers text ns) (sym c.in_ok-push-2.ensures.items)
-    (reading_last text done (drop at text) (drop_all at text c.loop-letter-test.false) number
-    (subst (λ (o : Option ℕ). Reading text done (drop at text) o) c.in-Some-begun.is
-    c.loop-letter.invariant))
+    let end = YieldsList-end (YieldsList-at c.into_iter-word-iterator.ensures.into_iter_gives
+    (YieldsList-from_slice_split _ (λ b. eqb b 32) text c.split-word-items.ensures.rest c.split-word-items.ensures.done
+    c.split-word-items.ensures.closure (λ x r q k. search (rules, tests))))
+    c.loop-word.yielded _ c.loop-word.yielded_by _ _ c.in-None.is c.next.ensures.steps in
+    words_all text (vec_items c.loop-word.numbers) (length c.loop-word.yielded) (omega (arith, end.1))
+    c.loop-word.invariant

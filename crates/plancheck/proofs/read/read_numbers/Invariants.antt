@@ -1,8 +1,10 @@
 -- What has been read of a text of numbers. Assumes nothing.
-use Rattle.std.proofs.Common.{drop, vec_items}
-use Rattle.plancheck.proofs.Readings.{Reading}
+use Rattle.std.proofs.Common.{length, take, vec_items}
+use Rattle.std.specs.List.{AllZip}
+use Rattle.plancheck.specs.Numbers.{Decimal}
+use Rattle.plancheck.proofs.Numbers.{words}
 use Rattle.plancheck.proofs.read.read_numbers.Given as goal
 
--- the numbers that are read and the one that is begun are the first of the text
-abbrev pub invariant-loop-letter : goal.invariant-loop-letter
-invariant-loop-letter l = Reading l.text (vec_items l.numbers) (drop l.letter-index l.text) l.begun
+-- the words passed are the numbers
+abbrev pub invariant-loop-word : goal.invariant-loop-word
+invariant-loop-word l = AllZip Decimal (take (length l.yielded) (words l.text)) (vec_items l.numbers)
