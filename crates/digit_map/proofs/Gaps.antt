@@ -15,12 +15,12 @@ use Rattle.digit_map.specs.Skips.{may_stand, past_blanks_lem}
 abbrev pub solid : List ℕ → Option ℕ
 solid = find (λ b. not (blank b))
 
-abbrev pub by_solid : (ℕ → Bool) → Option ℕ → Bool
+abbrev by_solid : (ℕ → Bool) → Option ℕ → Bool
 by_solid p None = false
 by_solid p (Some b) = p b
 
 -- a test of the first such byte, by what `is_some_and` answers
-pub some_and : (p : ℕ → Bool) (Q : ℕ → Type 0) (r : Bool) (o : Option ℕ) → MatchOption o (r ≡ false) Q →
+some_and : (p : ℕ → Bool) (Q : ℕ → Type 0) (r : Bool) (o : Option ℕ) → MatchOption o (r ≡ false) Q →
     ((b : ℕ) → Q b → r ≡ p b) → r ≡ by_solid p o
 some_and p Q r None h same = h
 some_and p Q r (Some b) h same = same b h
@@ -30,15 +30,17 @@ find_by : (p : ℕ → Bool) (x : Bool) (b : ℕ) (o : Option ℕ) →
 find_by p true b o = refl
 find_by p false b o = refl
 
-pub joint_solid : (xs : List ℕ) → by_solid joint (solid xs) ≡ joint_ahead xs
-joint_solid [] = refl
-joint_solid (b ∷ bs) =
-    find_by joint (blank b) b (solid bs) ∙ ap (λ v. cond (blank b) v (joint b)) (joint_solid bs)
+-- a look ahead, as the test of the first byte that is no blank
+module _ (p : ℕ → Bool) (ahead : List ℕ → Bool) (none : false ≡ ahead [])
+    (more : (b : ℕ) (bs : List ℕ) → cond (blank b) (ahead bs) (p b) ≡ ahead (b ∷ bs)) where
+  by_first : (xs : List ℕ) → by_solid p (solid xs) ≡ ahead xs
+  by_first [] = none
+  by_first (b ∷ bs) =
+      find_by p (blank b) b (solid bs) ∙ (ap (λ v. cond (blank b) v (p b)) (by_first bs) ∙ more b bs)
 
-pub colon_solid : (xs : List ℕ) → by_solid (λ b. eqb b 58) (solid xs) ≡ colon_ahead xs
-colon_solid [] = refl
-colon_solid (b ∷ bs) =
-    find_by (λ b. eqb b 58) (blank b) b (solid bs) ∙ ap (λ v. cond (blank b) v (eqb b 58)) (colon_solid bs)
+  pub looks_ahead : (Q : ℕ → Type 0) (r : Bool) (o : Option ℕ) (xs : List ℕ) → o ≡ solid xs →
+      MatchOption o (r ≡ false) Q → ((b : ℕ) → Q b → r ≡ p b) → r ≡ ahead xs
+  looks_ahead Q r o xs e h same = some_and p Q r o h same ∙ (ap (by_solid p) e ∙ by_first xs)
 
 -- what stands behind the blanks that a text begins with
 abbrev Passed : List ℕ → ℕ → Type 0

@@ -7,7 +7,6 @@ pub mod SetRuns
 pub mod HeadRuns
 pub mod Acting
 pub mod Alternatives
-pub mod Wholes
 pub mod Masks
 pub mod Offsets
 pub mod Spaces
