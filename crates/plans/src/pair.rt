@@ -7,7 +7,8 @@ ghost use Rattle.std.proofs.Common.{rules};
 use keypad::key::{Mark, Symbol};
 use keypad::plan::Plan;
 
-// A plan while it is live. One that is not takes nothing until the rewind.
+// A plan, and whether it is live. One that is not takes nothing until the rewind. That needs the plan, so the
+// flag stands beside it and no Option holds it.
 #[derive(Drop)]
 struct Part<P> {
     plan: P,
