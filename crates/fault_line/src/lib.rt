@@ -8,6 +8,7 @@ use digit_map::fault::Fault;
 use std::alloc::{AllocError, Global};
 
 // The line `map 3 at 3 alternative 2` and its line feed: cause, offset and alternative.
+#[tactic(auto, unfolding(crate::specs::Told::told))]
 pub fn fault_line(heap: Global, fault: Fault) -> Result<String, AllocError>
     ensures { IfOk result (λ s. string_bytes s ≡ told fault) }
 {

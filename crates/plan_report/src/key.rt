@@ -12,6 +12,7 @@ use keypad::plan::Plan;
 use std::alloc::{AllocError, Global};
 
 // Asks whether a symbol is open, presses it, and tells what came of it and how the plan stands behind it.
+#[tactic(auto, using(crate::proofs::Lines::key_told))]
 pub fn tell_key<P: Plan>(heap: Global, plan: &mut P, symbol: Symbol) -> Result<String, AllocError>
     ensures whole { Same (P.Plan.whole plan.new) (P.Plan.whole plan.old) }
     ensures told { IfOk result (λ s. KeyTold (P.Plan.rest plan.old)

@@ -15,7 +15,6 @@ pub fn write_symbol(out: &mut String, symbol: Symbol) -> Result<(), AllocError>
 }
 
 // The line that tells a key: the answers at the key, how the plan stands behind it, and what is open then.
-#[tactic(auto, unfolding(crate::specs::Words::key_line, crate::specs::Words::press_words))]
 pub fn key_told(
     heap: Global,
     symbol: Symbol,
