@@ -1,5 +1,6 @@
 -- Keys that are told one behind another, and that the same entries are told the same way. Assumes nothing.
 use Rattle.std.proofs.Common.{◌≡◌, ℕ, Bool, true, false, List, [], ◌∷◌, ◌++◌, refl, append_assoc}
+use Rattle.keypad.proofs.Sames.{same_refl}
 use Rattle.keypad.specs.Answers.{Pressed}
 use Rattle.keypad.specs.Entries.{Entries}
 use Rattle.keypad.specs.Sets.{Same, Starts, Ended, Settled, GoesOn}
@@ -10,14 +11,6 @@ use Rattle.plan_report.specs.Keys.{LineTold, KeyTold}
 use Rattle.plan_report.specs.Listings.{Listed, symbols}
 use Rattle.plan_report.specs.Rows.{following, RowTold}
 use Rattle.plan_report.specs.Standings.{Stands}
-
--- a set is the same as itself
-pub same_refl : (a : Entries) → Same a a
-same_refl a e = (λ h. h, λ h. h)
-
--- sets that are the same as one in between are the same
-pub same_trans : (a b c : Entries) → Same a b → Same b c → Same a c
-same_trans a b c s t e = (λ h. (t e).0 ((s e).0 h), λ h. (s e).1 ((t e).1 h))
 
 -- what the same entries answer
 pub stands_same : (a b : Entries) (st : Standing) → Same a b → Stands a st → Stands b st

@@ -1,10 +1,11 @@
 -- A turn tells one key more, and the last leaves none. Assumes nothing.
 use Rattle.std.proofs.Common.{◌≡◌, ◌+◌, List, [], ◌++◌, drop, string_bytes, sym, refl, subst}
+use Rattle.keypad.proofs.Sames.{same_trans}
 use Rattle.keypad.specs.Entries.{Entries}
 use Rattle.keypad.specs.declared.key.Symbol.{Symbol}
 use Rattle.std.proofs.lemmas.List.{append-nil, drop_more, drop_all}
 use Rattle.plan_report.specs.Rows.{RowTold}
-use Rattle.plan_report.proofs.Rows.{same_trans, row_same, row_more}
+use Rattle.plan_report.proofs.Rows.{row_same, row_more}
 use Rattle.plan_report.proofs.key.tell_row.Goals as goal
 
 pub loop-symbol-preserved : goal.loop-symbol-preserved
