@@ -96,16 +96,9 @@ mod tests {
 
     // Whether a place awaits these keys.
     fn awaits(node: Option<Node>, keys: u16, long: bool, dotted: bool) -> bool {
-        match node {
-            Some(
-                Node {
-                    awaits: Some(p),
-                    mark: _,
-                    marked: _,
-                },
-            ) => p.keys == keys && p.long == long && p.dotted == dotted,
-            _ => false,
-        }
+        node.and_then(|node| node.awaits).is_some_and(|position| {
+            position.keys == keys && position.long == long && position.dotted == dotted
+        })
     }
 
     #[test]
