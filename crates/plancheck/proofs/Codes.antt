@@ -1,10 +1,10 @@
 -- What a code keeps of its letters. Assumes nothing.
 use Rattle.std.proofs.Common.{◌≡◌, ℕ, ◌-◌, ◌<◌, ◌≤◌, cond, nat_lt, ◌⊎◌, List, [], ◌∷◌, map, IfOk, Ok, Err, Some, None, Option, Result, unwrap_or, sym, ◌∙◌, subst, inl, inr, arith, MatchOption}
-use Rattle.plan_report.specs.Words.{key_code}
+use Rattle.keypad.specs.Letters.{letter_of, Letter, NoLetter}
 use Rattle.std.proofs.lemmas.Bool.{cases_lt}
 use Rattle.std.proofs.lemmas.Bool.Decides.{nat_tests}
 use Rattle.std.specs.List.{AllZip}
-use Rattle.plancheck.specs.Letters.{Letter, NoLetter, CodeLetter}
+use Rattle.plancheck.specs.Letters.{CodeLetter}
 
 -- what is kept of a letter is its key, or 16
 pub code_letter : (b : ℕ) (o : Option ℕ) (n : ℕ) → MatchOption o (NoLetter b) (λ k. Letter b k) → n ≡ unwrap_or o 16 →
@@ -17,7 +17,7 @@ abbrev pub code_number : ℕ → ℕ
 code_number b =
     cond (nat_lt b 48) 16 (cond (nat_lt b 58) (b - 48) (cond (nat_lt b 65) 16 (cond (nat_lt b 71) (b - 55) 16)))
 
-number_key : (b k : ℕ) → k < 16 → b ≡ key_code k → k ≡ code_number b
+number_key : (b k : ℕ) → k < 16 → b ≡ letter_of k → k ≡ code_number b
 number_key b k small e = grind (arith, nat_tests)
 
 digit_letter : (b : ℕ) → 48 ≤ b → b < 58 → Letter b (b - 48)
@@ -29,12 +29,12 @@ capital_letter b x y = (omega arith, grind (arith, nat_tests))
 number_none : (b : ℕ) → (48 ≤ b → b < 58 → ⊥) → (65 ≤ b → b < 71 → ⊥) → code_number b ≡ 16
 number_none b low high = grind (arith, nat_tests)
 
-key_range_at : (b k : ℕ) → k < 16 → b ≡ key_code k → (k < 10) ⊎ (10 ≤ k) →
+key_range_at : (b k : ℕ) → k < 16 → b ≡ letter_of k → (k < 10) ⊎ (10 ≤ k) →
     ((48 ≤ b) × (b < 58)) ⊎ ((65 ≤ b) × (b < 71))
 key_range_at b k small e (inl x) = inl (grind (arith, nat_tests), grind (arith, nat_tests))
 key_range_at b k small e (inr x) = inr (grind (arith, nat_tests), grind (arith, nat_tests))
 
-key_range : (b k : ℕ) → k < 16 → b ≡ key_code k → ((48 ≤ b) × (b < 58)) ⊎ ((65 ≤ b) × (b < 71))
+key_range : (b k : ℕ) → k < 16 → b ≡ letter_of k → ((48 ≤ b) × (b < 58)) ⊎ ((65 ≤ b) × (b < 71))
 key_range b k small e = key_range_at b k small e (cases_lt k 10)
 
 letter_range : (b : ℕ) → ((48 ≤ b) × (b < 58)) ⊎ ((65 ≤ b) × (b < 71)) → (48 ≤ b → b < 58 → ⊥) →
@@ -43,7 +43,7 @@ letter_range b (inl x) low high = low x.0 x.1
 letter_range b (inr x) low high = high x.0 x.1
 
 -- a letter that is a key's is a digit or a capital
-letter_bounds : (b k : ℕ) → k < 16 → b ≡ key_code k → (48 ≤ b → b < 58 → ⊥) → (65 ≤ b → b < 71 → ⊥) → ⊥
+letter_bounds : (b k : ℕ) → k < 16 → b ≡ letter_of k → (48 ≤ b → b < 58 → ⊥) → (65 ≤ b → b < 71 → ⊥) → ⊥
 letter_bounds b k small e low high = letter_range b (key_range b k small e) low high
 
 no_key : (b k : ℕ) → Letter b k → (b < 48) ⊎ (((58 ≤ b) × (b < 65)) ⊎ (71 ≤ b)) → ⊥

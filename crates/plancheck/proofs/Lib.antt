@@ -8,7 +8,6 @@ pub mod Reasons
 pub mod Called
 pub mod Once
 pub mod Determined
-pub mod Blanks
 pub mod Replies
 pub mod Outcomes
 pub mod Transcripts

@@ -2,7 +2,7 @@
 use Rattle.std.proofs.Common.{◌≡◌, ℕ, ◌<◌, Bool, true, false, ◌⊎◌, eqb, List, [], ◌∷◌, ◌++◌, length, Option, sym, ap, ◌∙◌, subst, inl, inr, append_assoc, arith, MatchOption, ◌≢◌}
 use Rattle.keypad.specs.declared.key.Symbol.{Symbol}
 use Rattle.keypad.specs.declared.key.Symbol.TheVariants.{Plain, Long}
-use Rattle.plan_report.specs.Words.{key_code, named}
+use Rattle.keypad.specs.Letters.{letter_of, symbol_name}
 use Rattle.std.proofs.ByRecursion.{All-push}
 use Rattle.std.proofs.lemmas.List.{append-nil, nil_from_length}
 use Rattle.std.proofs.lemmas.Bool.Decides.{nat_tests, eqb_tells}
@@ -11,7 +11,7 @@ use Rattle.std.specs.List.{AllByRecursion}
 use Rattle.plancheck.specs.Letters.{spelled, OfKey, Begins, NoSymbol, Spells}
 
 -- a Z is the letter of no key
-pub key_no_z : (k : ℕ) → k < 16 → key_code k ≡ 90 → ⊥
+pub key_no_z : (k : ℕ) → k < 16 → letter_of k ≡ 90 → ⊥
 key_no_z k small e = grind (arith, nat_tests)
 
 -- a symbol has one letter or two
@@ -27,11 +27,11 @@ begins_one bs (Long j) (Plain k) rest more h l = absurd (key_no_z k l.key (cc (h
 begins_one bs (Long j) (Long k) rest more h l = cc (h.letters, l.letters)
 
 -- a row and one symbol more
-spelled_more : (ss : List Symbol) (s : Symbol) → spelled (ss ++ s ∷ []) ≡ spelled ss ++ named s
-spelled_more [] s = append-nil (named s)
+spelled_more : (ss : List Symbol) (s : Symbol) → spelled (ss ++ s ∷ []) ≡ spelled ss ++ symbol_name s
+spelled_more [] s = append-nil (symbol_name s)
 spelled_more (x ∷ ss) s =
-    ap (λ (bs : List ℕ). named x ++ bs) (spelled_more ss s) ∙ sym (append_assoc (named x) (spelled ss)
-    (named s))
+    ap (λ (bs : List ℕ). symbol_name x ++ bs) (spelled_more ss s) ∙ sym (append_assoc (symbol_name x) (spelled ss)
+    (symbol_name s))
 
 -- the symbols behind the first
 spelled_behind : (bs : List ℕ) (s : Symbol) (rest : List ℕ) → Begins bs s rest → (ss : List Symbol) →
@@ -59,7 +59,7 @@ module _ (text : List ℕ) where
       RowReading rest row → RowReading after (row ++ s ∷ [])
   reading_symbol rest row s after b h = record {
     letters = h.letters ∙ ap (λ (bs : List ℕ). spelled row ++ bs) b.letters
-        ∙ sym (append_assoc (spelled row) (named s) after)
+        ∙ sym (append_assoc (spelled row) (symbol_name s) after)
         ∙ ap (λ (bs : List ℕ). bs ++ after) (sym (spelled_more row s));
     keys = All-push OfKey row s h.keys b.key;
     complete = λ ss k. let x = h.complete ss k in spelled_behind rest s after b x.0 x.1;

@@ -2,7 +2,7 @@
 use Rattle.std.proofs.Common.{◌≡◌, ℕ, ◌+◌, ◌<◌, List, [], ◌∷◌, ◌++◌, length, get_or, sym, refl, ap, ◌∙◌, subst, inl, inr, arith}
 use Rattle.keypad.specs.declared.key.Symbol.{Symbol}
 use Rattle.keypad.specs.declared.key.Symbol.TheVariants.{Plain, Long}
-use Rattle.plan_report.specs.Words.{key_code}
+use Rattle.keypad.specs.Letters.{letter_of}
 use Rattle.std.proofs.ByRecursion.{All-from_get_or, All-weaker}
 use Rattle.std.proofs.lemmas.List.{get_or_append_left, get_or_at, length-append}
 use Rattle.std.proofs.lemmas.Bool.Decides.{nat_tests}
@@ -72,7 +72,7 @@ numbers_one bs (n ∷ i ∷ is) (m ∷ j ∷ js) h k =
     cc (first, rest)
 
 -- one key for a letter
-key_one : (j k : ℕ) → j < 16 → k < 16 → key_code j ≡ key_code k → j ≡ k
+key_one : (j k : ℕ) → j < 16 → k < 16 → letter_of j ≡ letter_of k → j ≡ k
 key_one j k x y e = grind (arith, nat_tests)
 
 letter_one : (b n m : ℕ) → CodeLetter b n → CodeLetter b m → n ≡ m

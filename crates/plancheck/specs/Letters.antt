@@ -2,16 +2,8 @@
 use Rattle.std.specs.Prelude.{◌≡◌, ℕ, ◌<◌, ◌⊎◌, List, [], ◌∷◌, ◌++◌}
 use Rattle.keypad.specs.declared.key.Symbol.{Symbol}
 use Rattle.keypad.specs.declared.key.Symbol.TheVariants.{Plain, Long}
-use Rattle.plan_report.specs.Words.{key_code, named}
+use Rattle.keypad.specs.Letters.{Letter, NoLetter, symbol_name}
 use Rattle.std.specs.List.{AllByRecursion}
-
--- b is the letter of the key k
-abbrev pub Letter : ℕ → ℕ → Type 0
-Letter b k = (k < 16) × (b ≡ key_code k)
-
--- b is the letter of no key
-abbrev pub NoLetter : ℕ → Type 0
-NoLetter b = (k : ℕ) → Letter b k → ⊥
 
 -- n is what a code keeps of the letter b: its key, or 16 if b is the letter of no key
 abbrev pub CodeLetter : ℕ → ℕ → Type 0
@@ -20,7 +12,7 @@ CodeLetter b n = Letter b n ⊎ (NoLetter b × (n ≡ 16))
 -- the symbols of a row, one behind another
 abbrev pub spelled : List Symbol → List ℕ
 spelled [] = []
-spelled (s ∷ ss) = named s ++ spelled ss
+spelled (s ∷ ss) = symbol_name s ++ spelled ss
 
 -- a symbol of one of the keys 0 to F
 abbrev pub OfKey : Symbol → Type 0
@@ -30,7 +22,7 @@ OfKey (Long k) = k < 16
 -- bs begins with the symbol of a key, and rest stands behind it
 pub record Begins (bs : List ℕ) (s : Symbol) (rest : List ℕ) : Type 0 where
   pub key : OfKey s
-  pub letters : bs ≡ named s ++ rest
+  pub letters : bs ≡ symbol_name s ++ rest
 
 -- bs begins with no symbol of a key
 abbrev pub NoSymbol : List ℕ → Type 0

@@ -10,7 +10,7 @@ pub enum Command {
     Show,
 }
 
-// The command that begins with a word.
+// The command that begins with a word. It is no TryFrom, whose error type would say no more than a None does.
 pub fn command_of(word: &[u8]) -> Option<Command>
     ensures { MatchOption result ((c : Command) → word.now ≢ command_word c)
         (λ c. word.now ≡ command_word c) }

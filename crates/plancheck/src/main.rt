@@ -6,7 +6,6 @@ mod kept;
 mod make;
 mod read;
 mod run;
-mod split;
 mod stop;
 mod tell;
 

@@ -14,7 +14,7 @@ pub enum Make {
     CodedPair,
 }
 
-// The make that goes by a name.
+// The make that goes by a name. It is no TryFrom, whose error type would say no more than a None does.
 pub fn make_of(name: &[u8]) -> Option<Make>
     ensures { MatchOption result ((m : Make) → name.now ≢ make_name m)
         (λ m. name.now ≡ make_name m) }

@@ -1,26 +1,16 @@
 //! Keys, symbols and numbers as they are written.
 ghost use Rattle.std.specs.Prelude.{ℕ, List, IfOk, MatchOption};
 ghost use Rattle.std.specs.List.{AllZip};
-ghost use Rattle.plancheck.specs.Letters.{Letter, NoLetter, CodeLetter, Begins, NoSymbol, Spells};
+ghost use Rattle.plancheck.specs.Letters.{CodeLetter, Begins, NoSymbol, Spells};
 ghost use Rattle.plancheck.specs.Numbers.{Extends, Decimal, Numbers};
 
 use keypad::key::Symbol;
+use keypad::letter::key_of;
 use std::alloc::{AllocError, Global};
 
 // A number that is no key's. A plan is made over numbers and refuses this one, so an Option for each key
 // would only be turned back into it.
 const NO_KEY: u8 = 16;
-
-// The key that a letter stands for: 0 to 9 and A to F.
-fn key_of(letter: u8) -> Option<u8>
-    ensures { MatchOption result (NoLetter letter) (λ key. Letter letter key) }
-{
-    match letter {
-        b'0'..=b'9' => Some(letter - b'0'),
-        b'A'..=b'F' => Some(letter - b'A' + 10),
-        _ => None,
-    }
-}
 
 // The symbol with which a text begins, and what stands behind it.
 fn first_symbol(text: &[u8]) -> Option<(Symbol, &[u8])>

@@ -10,11 +10,10 @@ use crate::command::{Command, command_of};
 use crate::kept::{Kept, unknown};
 use crate::make::make_of;
 use crate::read::read_row;
-use crate::split::split_blank;
 use crate::stop::Stop;
 use crate::tell::tell;
 use map_report::escape::write_text;
-use map_report::line::first_line;
+use map_report::line::{first_line, split_once};
 use std::alloc::{AllocError, Global};
 
 // The lines of the keys, or why no plan is made.
@@ -30,7 +29,7 @@ fn show(kept: &Kept, line: &[u8], text: &[u8]) -> Result<String, AllocError>
         text.now (string_bytes s)) }
 {
     let heap = kept.heap;
-    let Some((name, keys)) = split_blank(text) else {
+    let Some((name, keys)) = split_once(text, b' ') else {
         return unknown(heap);
     };
     let Some(make) = make_of(name) else {
@@ -52,7 +51,7 @@ fn answer(kept: &mut Kept, line: &[u8]) -> Result<String, AllocError>
     ensures { Gives (Answers (store_of kept.old) line.now) kept.old result
         kept.new }
 {
-    let Some((word, text)) = split_blank(line) else {
+    let Some((word, text)) = split_once(line, b' ') else {
         return unknown(kept.heap);
     };
     let Some(command) = command_of(word) else {

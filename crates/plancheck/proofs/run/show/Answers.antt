@@ -50,7 +50,7 @@ returns c =
     let rows = subst (λ (ss : List Symbol). RowLines k make ss lines) c.deref.ensures.value told in
     let printed : string_bytes c.push_str.new.self ≡ shown line ++ 10 ∷ lines =
     fed_text _ _ _ _ _ (shown line) lines c.new-out.ensures.bytes
-    (c.in_ok-write_text.ensures refl)
+    c.in_ok-write_text.ensures
     c.in_ok-push.ensures.bytes (c.in_ok-push.ensures.ascii (lit< tt))
     (subst (λ (bs : List ℕ). string_bytes c.push_str.new.self ≡ string_bytes
     c.push.new.self ++ bs)
