@@ -4,16 +4,27 @@ use Rattle.keypad.specs.Entries.{Entries}
 use Rattle.keypad.specs.Sets.{Same}
 use Rattle.keypad.specs.declared.key.Symbol.{Symbol}
 use Rattle.plan_report.specs.Rows.{RowTold}
-use Rattle.plan_report.proofs.Rows.{row_same}
+use Rattle.plan_report.proofs.Rows.{same_trans, row_same}
 use Rattle.plans.specs.Coded.{Behind}
 use Rattle.plans.specs.Behind.{behind_same}
+use Rattle.plans.specs.Pairs.{Either}
+use Rattle.plans.proofs.Pairs.{either_same}
 use Rattle.plancheck.specs.declared.make.Make.{Make}
-use Rattle.plancheck.specs.Makes.{entries_of}
+use Rattle.plancheck.specs.Makes.{coded_entries, entries_of}
 use Rattle.plancheck.specs.Stores.{Store}
 
 -- the same entries behind the same code
 pub coded_same : (ks ls : List ℕ) (a b : Entries) → ks ≡ ls → Same a b → Same (Behind ks a) (Behind ls b)
 coded_same ks ls a b e s = subst (λ (ms : List ℕ). Same (Behind ks a) (Behind ms b)) e (behind_same ks a b s)
+
+-- two sets side by side, each the same as another
+pub pair_of : (made a b x y : Entries) → Same made (Either a b) → Same a x → Same b y → Same made (Either x y)
+pair_of made a b x y s p q = same_trans made (Either a b) (Either x y) s (either_same a b x y p q)
+
+-- a set behind the code that is kept, and the same set
+pub coded_of : (k : Store) (made a x : Entries) → Same made (coded_entries k a) → Same a x →
+    Same made (coded_entries k x)
+coded_of k made a x s p = same_trans made (coded_entries k a) (coded_entries k x) s (behind_same k.code a x p)
 
 module _ {Z Y : Type 0} (row : List Symbol) where
   -- a row that is told of some entries is told of the same entries
