@@ -1,5 +1,5 @@
 -- The line itself, and then what its row gives. Assumes nothing.
-use Rattle.std.proofs.Common.{◌≡◌, ℕ, List, ◌∷◌, ◌++◌, vec_items, string_bytes, sym, refl, subst, lit<}
+use Rattle.std.proofs.Common.{◌≡◌, ℕ, List, ◌∷◌, ◌++◌, vec_items, string_bytes, sym, subst, lit<}
 use Rattle.keypad.specs.declared.key.Symbol.{Symbol}
 use Rattle.map_report.specs.Escapes.{shown}
 use Rattle.std.proofs.lemmas.Option.{MatchOption-at_some, MatchOption-at_none}
