@@ -50,7 +50,7 @@ impl Dial {
     pub fn is_fresh(&self) -> bool
         ensures { result ≡ fresh (dialled self.now) }
     {
-        self.symbols.len() == 0
+        self.symbols().is_empty()
     }
 
     pub fn symbols(&self) -> &[Symbol]
