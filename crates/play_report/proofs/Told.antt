@@ -1,6 +1,6 @@
 -- Things that are told one behind another, each by a turn of a loop. Assumes nothing.
-use Rattle.std.proofs.Common.{◌≡◌, ℕ, ◌+◌, ◌<◌, ◌≤◌, Bool, true, false, cond, List, [], ◌∷◌, ◌++◌, map, length, get_or, take, drop, IfOk, Ok, Err, vec_items, Decides, Result, Vec, sym, refl, ap, ◌∙◌, arith, rules}
-use Rattle.std.proofs.lemmas.List.{append_assoc, append-nil, drop_more, drop_all, length-append, take_at}
+use Rattle.std.proofs.Common.{◌≡◌, ℕ, ◌+◌, ◌<◌, ◌≤◌, Bool, true, false, cond, List, [], ◌∷◌, ◌++◌, map, length, get_or, drop, IfOk, Ok, Err, vec_items, Decides, Result, Vec, sym, refl, ap, ◌∙◌, arith, rules}
+use Rattle.std.proofs.lemmas.List.{append_assoc, append-nil, drop_more, drop_all, length-append}
 use Rattle.std.proofs.lemmas.Slice.Eq.{bytes_eq-Decides}
 use Rattle.std.specs.Str.{bytes_eq}
 use Rattle.keypad.specs.declared.key.Symbol.{Symbol}
@@ -9,19 +9,12 @@ use Rattle.key_record.proofs.Letters.{dial_length}
 use Rattle.key_record.specs.Letters.{report_line}
 use Rattle.line_parts.specs.declared.report.Report.{Report}
 use Rattle.line_parts.specs.Dialled.{dialled}
-use Rattle.line_parts.specs.Texts.{Laid}
 use Rattle.play_report.specs.Sides.{sides_words}
 use Rattle.play_report.specs.Words.{told_all, open_line}
 
 -- what is added in parts is added as one
 pub joined-++ : (t xs ys : List ℕ) {u v : List ℕ} → u ≡ t ++ xs → v ≡ u ++ ys → v ≡ t ++ (xs ++ ys)
 joined-++ t xs ys p q = q ∙ (ap (λ (l : List ℕ). l ++ ys) p ∙ append_assoc t xs ys)
-
--- a text that was laid into memory with room for it stands at its start
-pub laid_front : (t before after : List ℕ) (r : Bool) → length t ≤ length before → Laid t before r after →
-    take (length t) after ≡ t
-laid_front t before after true h l = ap (take (length t)) l.1 ∙ take_at t (drop (length t) before) (length t) refl
-laid_front t before after false h l = absurd (omega arith)
 
 -- the answer of a test of bytes
 pub tested : (xs ys : List ℕ) (r : Bool) → Decides r (xs ≡ ys) → r ≡ bytes_eq xs ys

@@ -16,9 +16,7 @@ use std::alloc::{AllocError, Global};
 fn add_text(out: &mut Vec<u8>, text: Text) -> Result<(), AllocError>
     ensures { Adds out.old result (text_of text) out.new }
 {
-    let mut memory = [0; 85];
-    let _ = text.lay(&mut memory);
-    out.extend_from_slice(&memory[0..text.len()])
+    out.extend_from_slice(text.as_bytes())
 }
 
 // Adds the text of each item, one behind another.
