@@ -1,21 +1,19 @@
 -- The keys ahead are fed to an entry, one after another. Assumes nothing.
-use Rattle.std.proofs.Common.{◌≡◌, ℕ, ◌+◌, ◌<◌, ◌≤◌, List, [], ◌∷◌, ◌++◌, length, get_or, take, drop, None, refl, ap, ◌∙◌, subst, arith}
+use Rattle.std.proofs.Common.{◌≡◌, ℕ, ◌+◌, ◌<◌, ◌≤◌, List, [], ◌∷◌, ◌++◌, length, get_or, take, drop, None, ap, ◌∙◌, subst, arith}
 use Rattle.std.proofs.lemmas.List.{length-drop, take-append-drop, take_more, drop_more, drop_all}
 use Rattle.keypad.specs.declared.key.KeyEvent.{KeyEvent}
 use Rattle.keypad.specs.declared.key.Symbol.{Symbol}
 use Rattle.keypad.specs.Entries.{Entries}
 use Rattle.keypad.specs.Sets.{Same, Remains}
 use Rattle.keypad.proofs.Rows.{listed_within}
-use Rattle.keypad.proofs.Sames.{same_refl, same_trans, remains_same, remains-++}
+use Rattle.keypad.proofs.Sames.{same_trans, remains_same, remains-++}
 use Rattle.key_record.specs.Dials.{chars}
-use Rattle.key_record.specs.Rules.{Fits}
 use Rattle.key_record.specs.States.{State}
 use Rattle.key_record.specs.Turns.{Turned, Turns, Outcome, still, Fed}
-use Rattle.key_record.proofs.Dials.{width_bounds, chars-++}
+use Rattle.key_record.proofs.Dials.{chars-++}
 use Rattle.key_record.proofs.FedOn.{fed_on}
 use Rattle.key_record.proofs.Moves.{turns_same}
 use Rattle.line_parts.specs.declared.ahead.Ahead.{Ahead}
-use Rattle.line_parts.specs.Dialled.{dialled}
 use Rattle.line_parts.specs.Queued.{queued}
 use Rattle.line.specs.declared.line.Line.{Line}
 use Rattle.line.specs.Lines.{state_of}
@@ -31,10 +29,6 @@ with_dial st p = record {
   ahead = st.ahead;
   count = st.count;
 }
-
-pub length_dropped : {A : Type 0} (n : ℕ) (xs ys : List A) (most : ℕ) → xs ≡ drop n ys → length ys ≤ most
-    → length xs ≤ most
-length_dropped n xs ys most e h = rw (e, length-drop) (omega arith)
 
 -- there is a key with n before it
 pub ahead_within : (a : Ahead) (n : ℕ) (k : KeyEvent) → drop n (queued a) ≡ k ∷ drop (n + 1) (queued a)
@@ -56,17 +50,6 @@ pub record Feeding {X : Type 0} (whole rest : X → Entries) (l m : Line X) (fed
   pub narrow : chars pressed ≤ fed + fed
 
 module _ {X : Type 0} (whole rest : X → Entries) where
-  pub feeding_none : (l : Line X) → dialled l.dial ≡ [] → Feeding whole rest l l 0
-  feeding_none l e = record {
-    pressed = [];
-    taken = [];
-    state = ap (with_dial (state_of l)) e;
-    same = same_refl (whole l.plan);
-    remains = same_refl (rest l.plan);
-    led = refl;
-    narrow = omega arith;
-  }
-
   module _ (l m : Line X) (fed : ℕ) (f : Feeding whole rest l m fed) where
     pub feeding_remains : (a : Entries) (ys : List Symbol) → Same a (Remains (rest m.plan) ys)
         → Same a (Remains (rest l.plan) (f.pressed ++ ys))
@@ -112,15 +95,6 @@ module _ {X : Type 0} (whole rest : X → Entries) where
       feeding_all past = subst (λ q. drop fed q ≡ []) now (drop_all fed ks past)
 
     module _ (k : KeyEvent) (at : drop fed (queued m.ahead) ≡ k ∷ drop (fed + 1) (queued m.ahead)) where
-      -- each key before it has at most two characters
-      pub feeding_fits : Fits (state_of m) (rest m.plan) k
-      feeding_fits y chosen =
-          let few = ahead_within m.ahead fed k at in
-          let w = width_bounds y in
-          let e = ap (λ (st : State). chars st.dial) f.state in
-          let h = f.narrow in
-          omega arith
-
       -- one key more
       pub feeding_more : (n : Line X) → Processed whole rest m k None n → Feeding whole rest l n (fed + 1)
       feeding_more n p =

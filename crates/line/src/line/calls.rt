@@ -16,7 +16,7 @@ use keypad::key::KeyEvent;
 use keypad::plan::Plan;
 use line_parts::report::Report;
 
-// What moves a line on: an arming, a key or an expiry.
+// What moves a line on: an arming, a key or an expiry. The line matches its own phase together with it.
 #[derive(Clone, Copy)]
 enum Input {
     Arm(Settings),

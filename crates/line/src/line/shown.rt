@@ -70,7 +70,7 @@ impl<P> Line<P> {
         self.ahead
     }
 
-    // The report of a line that is done.
+    // The report of a line that is done. The match takes the ending out of the phase, which no method does.
     pub(crate) fn report(&self) -> Option<Report>
         ensures { Reported self.now.phase (dialled self.now.dial) result }
     {
@@ -86,7 +86,7 @@ impl<P> Line<P> {
 
 impl<P: Plan> Line<P> {
     // The timer that runs with its seconds: none unless the line is open, and none where it waits without
-    // limit.
+    // limit. The match is as plain as a chain, and asks the plan of an open line alone.
     pub fn timer(&self) -> Option<(Timer, u8)>
         ensures { Running (state_of self.now) (P.Plan.rest self.now.plan) result }
     {

@@ -1,39 +1,13 @@
 -- An arming of an idle line. Assumes nothing.
-use Rattle.std.proofs.Common.{◌+◌, cond, length, refl, ap, ◌∙◌, arith}
+use Rattle.std.proofs.Common.{◌+◌, cond, refl, ap, ◌∙◌}
 use Rattle.key_record.specs.declared.ending.Phase.TheVariants.{Open}
 use Rattle.key_record.specs.States.{with_phase, with_ahead}
-use Rattle.line_parts.specs.Queued.{queued}
 use Rattle.line.specs.Lines.{state_of}
 use Rattle.line.specs.Processed.{finished}
-use Rattle.line.proofs.Feeding.{length_dropped, feeding_none, feeding_next, feeding_all, feeding_fits, feeding_more}
+use Rattle.line.proofs.Feeding.{feeding_next, feeding_all, feeding_more}
 use Rattle.line.proofs.Arming.{arming_opens, arming_ends}
 use Rattle.line.proofs.line.Line.begin.Goals.{then-kept, else-kept}
 use Rattle.line.proofs.line.Line.begin.Goals as goal
-
-pub loop-fed-init : goal.loop-fed-init
-loop-fed-init g c = feeding_none g.P.Plan.whole g.P.Plan.rest _ c.new-self.ensures
-
-pub process-requires : goal.process-requires
-process-requires g c =
-    feeding_fits g.P.Plan.whole g.P.Plan.rest _ _ _ c.loop-fed.invariant _
-    (feeding_next g.P.Plan.whole g.P.Plan.rest _ _ _ c.loop-fed.invariant _
-    c.events-event-items.ensures _ c.loop-fed-test.true)
-
-pub invariant_of-self-in-Some : goal.invariant_of-self-in-Some
-invariant_of-self-in-Some g c =
-    let n = c.process.new.self in
-    let off = c.if-kept.discard in
-    record {
-      few = n.few;
-      clear = length_dropped off _ (queued n.ahead) _ c.discard.ensures n.clear;
-    }
-
-pub finish-requires : goal.finish-requires
-finish-requires g c =
-    let m = ap (λ st. st.count) c.loop-fed.invariant.state in
-    let n = ap (λ st. st.count) c.process.ensures.state in
-    let few = c.requires.few in
-    omega arith
 
 pub returns-in-Some : goal.returns-in-Some
 returns-in-Some g c =
@@ -56,13 +30,6 @@ loop-fed-preserved g c =
     feeding_more g.P.Plan.whole g.P.Plan.rest _ _ _ c.loop-fed.invariant _
     (feeding_next g.P.Plan.whole g.P.Plan.rest _ _ _ c.loop-fed.invariant _
     c.events-event-items.ensures _ c.loop-fed-test.true) _ c.in_default.ensures
-
-pub invariant_of-self-2 : goal.invariant_of-self-2
-invariant_of-self-2 g c =
-    let m = ap (λ st. st.count) c.loop-fed.invariant.state in
-    let few = c.requires.few in
-    let e = ap length c.new-self-2.ensures in
-    record { few = omega arith; clear = omega arith }
 
 pub returns : goal.returns
 returns g c =

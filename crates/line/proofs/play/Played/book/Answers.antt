@@ -1,20 +1,9 @@
 -- A booking by plain numbers. Assumes nothing.
-use Rattle.std.proofs.Common.{Err, refl, ap, ◌∙◌, arith}
-use Rattle.std.proofs.lemmas.List.{length-append}
+use Rattle.std.proofs.Common.{Err, refl, ap, ◌∙◌}
 use Rattle.std.proofs.lemmas.Result.{err_from_is_err_and}
-use Rattle.line.specs.Lines.{state_of}
-use Rattle.line.proofs.Booking.{booked_within, does_longer, called_booking}
+use Rattle.line.proofs.Booking.{does_longer, called_booking}
 use Rattle.line.proofs.Calling.{called_quietly, settled_ok, settled_err}
 use Rattle.line.proofs.play.Played.book.Goals as goal
-
-pub slice_bounds-extend_from_slice-end : goal.slice_bounds-extend_from_slice-end
-slice_bounds-extend_from_slice-end g c =
-    let b = rw (settled_ok c.book-booked.result _ _ c.in_ok-written.was c.map_err.ensures.cases) at
-    c.book-booked.ensures in
-    let m = c.book-booked.new.self in
-    let h = booked_within (g.P.Plan.rest m.plan) (state_of m) b.does.effect c.in_ok-written.written _
-    c.book-booked.new.memory b.does.answered b.memory in
-    simp length-append (omega arith)
 
 pub returns : goal.returns
 returns g c =

@@ -1,6 +1,5 @@
 -- A list of calls played on a line. Assumes nothing.
 use Rattle.std.proofs.Common.{ap, subst, arith}
-use Rattle.keypad.specs.Sets.{Same}
 use Rattle.keypad.proofs.Sames.{same_refl}
 use Rattle.key_record.specs.Agreement.{Recorded}
 use Rattle.line.specs.Plays.{played_shown}
@@ -19,11 +18,6 @@ loop-call-init g c =
       room = record { replies = omega arith; reports = omega arith; lines = omega arith };
     }
 
-pub note-requires : goal.note-requires
-note-requires g c =
-    let room = c.loop-call.invariant.room in
-    record { replies = omega arith; reports = omega arith; lines = omega arith }
-
 pub loop-call-preserved : goal.loop-call-preserved
 loop-call-preserved g c =
     let w = g.P.Plan.whole c.new.result.plan in
@@ -35,18 +29,14 @@ loop-call-preserved g c =
       room = c.note.ensures.room _ (record { replies = omega arith; reports = omega arith; lines = omega arith });
     }
 
-pub returns : goal.returns
-returns g c =
+pub returns-clause-recorded : goal.returns-clause-recorded
+returns-clause-recorded g c =
     let w = g.P.Plan.whole c.new.result.plan in
-    let e = ap g.P.Plan.whole c.new.ensures.plan in
     let number = c.args.number in
     let p = c.loop-call.played in
-    let going = c.loop-call.invariant.going in
-    record {
-      recorded = subst (λ cs. Recorded (g.P.Plan.whole c.args.self.plan) number cs (played_shown p))
-          c.deref-call-items.ensures.value
-          (subst (λ v. Recorded v number c.deref-call-items.result.now (played_shown p)) e
-          (going_all g.P.Plan.whole g.P.Plan.rest number w _ c.loop-call.call-index p
-          c.loop-call-test.false going));
-      whole = subst (λ v. Same (g.P.Plan.whole p.line.plan) v) e going.follows.wholly;
-    }
+    subst (λ cs. Recorded (g.P.Plan.whole c.args.self.plan) number cs (played_shown p))
+    c.deref-call-items.ensures.value
+    (subst (λ v. Recorded v number c.deref-call-items.result.now (played_shown p))
+    (ap g.P.Plan.whole c.new.ensures.plan)
+    (going_all g.P.Plan.whole g.P.Plan.rest number w _ c.loop-call.call-index p
+    c.loop-call-test.false c.loop-call.invariant.going))
