@@ -1,30 +1,17 @@
 -- Things that are told one behind another, each by a turn of a loop. Assumes nothing.
-use Rattle.std.proofs.Common.{◌≡◌, ℕ, ◌+◌, ◌<◌, ◌≤◌, Bool, true, false, cond, List, [], ◌∷◌, ◌++◌, map, length, get_or, drop, IfOk, Ok, Err, vec_items, Decides, Result, Vec, sym, refl, ap, ◌∙◌, arith, rules}
+use Rattle.std.proofs.Common.{◌≡◌, ℕ, ◌+◌, ◌<◌, ◌≤◌, Bool, true, false, cond, List, [], ◌∷◌, ◌++◌, map, length, get_or, drop, sym, refl, ap, ◌∙◌, arith}
 use Rattle.std.proofs.lemmas.List.{append_assoc, append-nil, drop_more, drop_all, length-append}
-use Rattle.std.proofs.lemmas.Slice.Eq.{bytes_eq-Decides}
-use Rattle.std.specs.Str.{bytes_eq}
 use Rattle.keypad.specs.declared.key.Symbol.{Symbol}
 use Rattle.key_record.specs.Dials.{chars, fresh}
 use Rattle.key_record.proofs.Letters.{dial_length}
 use Rattle.key_record.specs.Letters.{report_line}
 use Rattle.line_parts.specs.declared.report.Report.{Report}
 use Rattle.line_parts.specs.Dialled.{dialled}
-use Rattle.play_report.specs.Sides.{sides_words}
 use Rattle.play_report.specs.Words.{told_all, open_line}
 
 -- what is added in parts is added as one
 pub joined-++ : (t xs ys : List ℕ) {u v : List ℕ} → u ≡ t ++ xs → v ≡ u ++ ys → v ≡ t ++ (xs ++ ys)
 joined-++ t xs ys p q = q ∙ (ap (λ (l : List ℕ). l ++ ys) p ∙ append_assoc t xs ys)
-
--- the answer of a test of bytes
-pub tested : (xs ys : List ℕ) (r : Bool) → Decides r (xs ≡ ys) → r ≡ bytes_eq xs ys
-tested xs ys r h = search (rules, bytes_eq-Decides)
-
--- sides that are told from other lists, which are the same
-pub made_of : {Z Y : Type 0} (r : Result (Vec ℕ Z) Y) (us vs xs ys : List ℕ) → us ≡ xs → vs ≡ ys →
-    IfOk r (λ v. vec_items v ≡ sides_words us vs) → IfOk r (λ v. vec_items v ≡ sides_words xs ys)
-made_of (Ok v) us vs xs ys p q h = h ∙ (ap (λ (l : List ℕ). sides_words l vs) p ∙ ap (sides_words xs) q)
-made_of (Err e) us vs xs ys p q h = tt
 
 -- a blank at most
 lead_length : (f : Bool) → length {A = ℕ} (cond f [] (32 ∷ [])) ≤ 1

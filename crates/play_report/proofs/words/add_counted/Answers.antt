@@ -4,9 +4,7 @@ use Rattle.line_parts.specs.Texts.{text_of}
 use Rattle.line_parts.proofs.Texts.{added-++}
 use Rattle.play_report.proofs.words.add_counted.Goals as goal
 
-pub returns : goal.returns
-returns c = record {
-  after = added-++ (text_of c.args.text.now) c.args.word.now (decimal c.args.number) c.push_all.ensures
-      c.add_number.ensures.after;
-  bound = c.add_number.ensures.bound;
-}
+pub returns-clause-after : goal.returns-clause-after
+returns-clause-after c =
+    added-++ (text_of c.args.text.now) c.args.word.now (decimal c.args.number) c.push_all.ensures
+    c.add_number.ensures.after
