@@ -10,7 +10,8 @@ pub mod places;
 
 // A map as it is read: its timers, and the places of its alternatives so far, one behind another, each
 // alternative's end as its last place. It has at most 255 positions, which are counted as they come, since
-// every sign asks for their number, and at most 64 ends.
+// every sign asks for their number, and at most 64 ends. The timers go with the places, since what the
+// readers promise speaks of both at once.
 #[derive(Clone, Copy)]
 pub struct Draft {
     timers: Timers,

@@ -11,7 +11,7 @@ pub struct Position {
 
 // A place of an alternative: the position that is awaited there, or none at its end; the mark in force; and
 // whether a mark stands right before it. An alternative is held exactly when a mark stands right before its
-// end.
+// end. The two of a mark are no pair of their own: what follows a mark keeps the one and resets the other.
 #[derive(Clone, Copy)]
 pub struct Node {
     pub awaits: Option<Position>,

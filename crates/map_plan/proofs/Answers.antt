@@ -44,8 +44,8 @@ starts_at : (o : Option Position) (m : Mark) (h : Bool) (r : List Node) {e : Ent
 starts_at (Some p) m h r s a x = starts_with p m h r (accepts_sound p s a) x
 starts_at None m h r s a x = absurd (both_ways false refl a)
 
-starts_first : (xs : List Node) {e : Entry} (s : Symbol) → answered (ask.takes_symbol s) xs ≡ true → Says xs e →
-    (m : Mark) × (x : Entry) × Says xs (prepend (step s m) x)
+starts_first : (xs : List Node) {e : Entry} (s : Symbol) → answered (ask.takes_symbol s) xs ≡ true →
+    Says xs e → (m : Mark) × (x : Entry) × Says xs (prepend (step s m) x)
 starts_first [] s a x = absurd (both_ways false refl a)
 starts_first (n ∷ r) s a x =
     let y = starts_at n.awaits n.mark n.marked r s a x in (n.mark, y.0, y.1)

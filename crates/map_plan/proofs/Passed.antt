@@ -83,7 +83,8 @@ ends_no_dot [] e d = both_ways false refl e
 ends_no_dot (n ∷ r) e d = end_no_dot n.awaits e d
 
 passing_takes : (live : Places) (s : Symbol) (i : ℕ) (xs : List Node) →
-    passing_first live (Some s) i xs ≡ true → (holds live i ≡ true) × (answered (ask.takes_symbol s) xs ≡ true)
+    passing_first live (Some s) i xs ≡ true →
+    (holds live i ≡ true) × (answered (ask.takes_symbol s) xs ≡ true)
 passing_takes live s i [] e = absurd (both_ways false refl e)
 passing_takes live s i (n ∷ r) e = and_parts (holds live i) (answered (ask.takes_symbol s) (n ∷ r)) e
 

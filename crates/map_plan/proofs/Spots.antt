@@ -38,7 +38,8 @@ pub read_at : (xs ns : List Node) (i : ℕ) (n : Node) → xs ≡ ns → i < len
 read_at xs ns i n e l = subst (λ ys. drop i ys ≡ get_or xs i n ∷ drop (i + 1) ys) e (drop_more xs i n l)
 
 -- a place that answers is one of the map's
-pub answered_inside : (ns : List Node) (q : Node → Bool) (i : ℕ) → answered q (drop i ns) ≡ true → i < length ns
+pub answered_inside : (ns : List Node) (q : Node → Bool) (i : ℕ) → answered q (drop i ns) ≡ true →
+    i < length ns
 answered_inside ns q i a =
     ⊎_elim (λ l. l) (λ l. absurd (both_ways false refl (sym (ap (answered q) (drop_all i ns l)) ∙ a)))
     (cases_lt i (length ns))
@@ -89,7 +90,8 @@ module _ (live : Places) (p : Node → Bool) where
 
   -- the live places are asked one behind another
   pub some_live : (ns : List Node) (r : Bool) →
-      r ≡ list_any (λ (x : ℕ × Node). p x.1) (filter (λ (x : ℕ × Node). holds live x.0) (enumerate_from 0 ns)) →
+      r ≡ list_any (λ (x : ℕ × Node). p x.1)
+      (filter (λ (x : ℕ × Node). holds live x.0) (enumerate_from 0 ns)) →
       Tells (SomeLive ns live p) r
   some_live ns r e =
       tells_from ns r (e ∙ any_filter (λ x. holds live x.0) (λ x. p x.1) (enumerate_from 0 ns))

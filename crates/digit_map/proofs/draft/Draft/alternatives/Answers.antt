@@ -8,4 +8,5 @@ use Rattle.digit_map.proofs.draft.Draft.alternatives.Goals as goal
 pub returns : goal.returns
 returns c =
     let ns = drafted c.args.self.now in
-    let h : c.count.result ≡ count_by (λ (n : Node). is_none n.awaits) ns = search rules in h ∙ sym (ends_by ns)
+    let h : c.count.result ≡ count_by (λ (n : Node). is_none n.awaits) ns = search rules in
+    h ∙ sym (ends_by ns)

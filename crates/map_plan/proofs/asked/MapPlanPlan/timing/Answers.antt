@@ -6,7 +6,8 @@ use Rattle.map_plan.proofs.Answers.{tells_under}
 use Rattle.map_plan.proofs.asked.MapPlanPlan.timing.Goals as goal
 
 pub returns-then-any_live : goal.returns-then-any_live
-returns-then-any_live c = tells_under c.args.self.now true Long (c.if-any_live.ensures (ask.under Long) (λ n r h. search rules))
+returns-then-any_live c =
+    tells_under c.args.self.now true Long (c.if-any_live.ensures (ask.under Long) (λ n r h. search rules))
 
 pub returns-then-any_live-2 : goal.returns-then-any_live-2
 returns-then-any_live-2 c =
