@@ -5,6 +5,7 @@ ghost use Rattle.map_report.specs.Escapes.{escape, shown, excerpt, caret};
 use std::alloc::{AllocError, Global};
 
 // Writes a byte so that a person can read it. Where memory lacks, nothing is said of what was written.
+// These writers are functions: a wrapped text with a Display would stand beside them and be no plainer.
 pub fn write_byte(out: &mut String, byte: u8) -> Result<(), AllocError>
     ensures { Adds out.old result (escape byte) out.new }
 {

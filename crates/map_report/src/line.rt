@@ -3,7 +3,7 @@ ghost use Rattle.std.specs.Prelude.{◌≡◌, [], length, MatchOption};
 ghost use Rattle.map_report.specs.Lines.{Splits};
 ghost use Rattle.map_report.specs.Parts.{Clear, Parts};
 
-// What stands before the first such byte of a text and what stands behind it, or none where it does not occur.
+// What stands before the first such byte of a text and behind it, or none where it does not occur.
 pub fn split_once(text: &[u8], byte: u8) -> Option<(&[u8], &[u8])>
     ensures { MatchOption result (Clear byte text.now (length text.now))
         (λ x. Parts byte text.now x.0.now x.1.now) }

@@ -7,7 +7,7 @@ use keypad::timers::Timers;
 use std::alloc::{AllocError, Global};
 use std::fmt;
 
-// What a cause says in plain words.
+// What a cause says in plain words. A Display is no plainer: this text needs no memory and no writer.
 #[tactic(auto, unfolding(crate::specs::Phrases::phrase))]
 pub fn cause_words(cause: Cause) -> &'static str
     ensures { result.now ≡ phrase cause }

@@ -20,6 +20,7 @@ fn write_if_open<P: Plan>(out: &mut String, plan: &P, symbol: Symbol) -> Result<
 pub fn open_names<P: Plan>(heap: Global, plan: &P) -> Result<String, AllocError>
     ensures { IfOk result (λ s. Listed (P.Plan.rest plan.now) symbols (string_bytes s)) }
 {
+    // No chain of both ranges: a `for` over it has no proof in a function that is generic in the plan.
     let mut names = String::new(heap);
     'plain: for key in 0..16 {
         write_if_open(&mut names, plan, Symbol::Plain(key))?;
