@@ -6,7 +6,7 @@ use Rattle.digit_map.specs.Maps.{places}
 use Rattle.digit_map.specs.Meaning.{MapEntry}
 use Rattle.digit_map.specs.declared.map.Map.{Map}
 use Rattle.digit_map.specs.declared.node.Node.{Node}
-use Rattle.plan_report.proofs.Rows.{same_refl}
+use Rattle.keypad.proofs.Sames.{same_refl}
 use Rattle.plans.specs.Lots.{GoodWidth, listed}
 use Rattle.plans.specs.Pairs.{Either}
 use Rattle.plans.proofs.Pairs.{either_same}

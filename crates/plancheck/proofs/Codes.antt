@@ -1,18 +1,12 @@
 -- What a code keeps of its letters. Assumes nothing.
-use Rattle.std.proofs.Common.{◌≡◌, ℕ, ◌-◌, ◌<◌, ◌≤◌, cond, nat_lt, ◌⊎◌, List, [], ◌∷◌, map, IfOk, Ok, Err, Some, None, Option, Result, unwrap_or, sym, ◌∙◌, subst, inl, inr, arith, MatchOption}
-use Rattle.keypad.specs.Letters.{letter_of, Letter, NoLetter}
+use Rattle.std.proofs.Common.{◌≡◌, ℕ, ◌-◌, ◌<◌, ◌≤◌, cond, nat_lt, ◌⊎◌, List, [], ◌∷◌, map, IfOk, Ok, Err, Result, sym, ◌∙◌, subst, inl, inr, arith}
+use Rattle.keypad.specs.Letters.{letter_of, Letter}
 use Rattle.std.proofs.lemmas.Bool.{cases_lt}
 use Rattle.std.proofs.lemmas.Bool.Decides.{nat_tests}
 use Rattle.std.specs.List.{AllZip}
 use Rattle.plancheck.specs.Letters.{CodeLetter}
 
--- what is kept of a letter is its key, or 16
-pub code_letter : (b : ℕ) (o : Option ℕ) (n : ℕ) → MatchOption o (NoLetter b) (λ k. Letter b k) → n ≡ unwrap_or o 16 →
-    CodeLetter b n
-code_letter b None n none e = inr (none, e)
-code_letter b (Some k) n found e = inl (subst (λ m. Letter b m) (sym e) found)
-
--- the same as a number
+-- what is kept of a letter: its key, or 16
 abbrev pub code_number : ℕ → ℕ
 code_number b =
     cond (nat_lt b 48) 16 (cond (nat_lt b 58) (b - 48) (cond (nat_lt b 65) 16 (cond (nat_lt b 71) (b - 55) 16)))

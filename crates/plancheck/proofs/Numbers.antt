@@ -190,11 +190,6 @@ words_all text ns i over h =
     words_numbers text ns
     (subst (λ (ws : List (List ℕ)). AllZip Decimal ws ns) (take_all i (words text) over) h)
 
--- numbers are one or more
-pub numbers_length : (bs ns : List ℕ) → Numbers bs ns → 0 < length ns
-numbers_length bs [] h = absurd h
-numbers_length bs (n ∷ ns) h = omega arith
-
 -- the first number and those behind it
 pub numbers_parts : (bs ns rest : List ℕ) (n : ℕ) → Numbers bs ns → n ≡ get_or ns 0 n → rest ≡ drop 1 ns →
     Numbers bs (n ∷ rest)

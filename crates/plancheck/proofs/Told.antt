@@ -4,7 +4,8 @@ use Rattle.keypad.specs.Entries.{Entries}
 use Rattle.keypad.specs.Sets.{Same}
 use Rattle.keypad.specs.declared.key.Symbol.{Symbol}
 use Rattle.plan_report.specs.Rows.{RowTold}
-use Rattle.plan_report.proofs.Rows.{same_trans, row_same}
+use Rattle.keypad.proofs.Sames.{same_trans}
+use Rattle.plan_report.proofs.Rows.{row_same}
 use Rattle.plans.specs.Coded.{Behind}
 use Rattle.plans.specs.Behind.{behind_same}
 use Rattle.plans.specs.Pairs.{Either}

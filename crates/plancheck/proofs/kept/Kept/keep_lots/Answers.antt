@@ -4,7 +4,7 @@ use Rattle.std.proofs.lemmas.Option.{MatchOption-at_some, MatchOption-at_none}
 use Rattle.plancheck.specs.Numbers.{Numbers}
 use Rattle.plancheck.specs.Replies.{question, LotsLine, listed, wide, unread}
 use Rattle.plancheck.specs.Stores.{store_of}
-use Rattle.plancheck.proofs.Numbers.{numbers_length, numbers_parts}
+use Rattle.plancheck.proofs.Numbers.{numbers_parts}
 use Rattle.plancheck.proofs.Replies.{replied, gives_told}
 use Rattle.plancheck.proofs.kept.Kept.keep_lots.Goals as goal
 
@@ -14,14 +14,6 @@ returns-in_default-clause-gives c =
     c.unknown.result c.unknown.ensures
     (unread (MatchOption-at_none ((ns : List ℕ) → Numbers c.args.text.now ns → ⊥) _ c.in_default.is
     c.in_ok-numbers.ensures))
-
-pub remove-requires : goal.remove-requires
-remove-requires c =
-    let text = c.args.text.now in
-    let numbers = MatchOption-at_some _ (λ v. Numbers text (vec_items v)) c.in-Some.numbers c.in-Some.is
-    c.in_ok-numbers.ensures in
-    let some = numbers_length text (vec_items c.in-Some.numbers) numbers in
-    omega (arith, some, c.in-Some.numbers.ok)
 
 pub returns-in_default-try_from-clause-gives : goal.returns-in_default-try_from-clause-gives
 returns-in_default-try_from-clause-gives c =
