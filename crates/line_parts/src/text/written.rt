@@ -1,4 +1,4 @@
-ghost use Rattle.std.specs.Prelude.{◌≡◌, ◌≤◌, [], ◌∷◌, ◌++◌, length};
+ghost use Rattle.std.specs.Prelude.{◌≡◌, ◌≤◌, [], ◌∷◌, ◌++◌, length, is_some, IfSome};
 ghost use Rattle.line_parts.specs.Texts.{text_of, cut, Laid};
 
 use crate::text::Text;
@@ -40,15 +40,24 @@ impl Text {
         self.bytes.as_slice()
     }
 
-    // Writes the text at the start of the memory, or none of it if there is no room for all.
-    pub fn lay(&self, memory: &mut [u8]) -> bool
-        ensures { Laid (text_of self.now) memory.old result memory.new }
+    // Writes the text at the start of the memory and answers its length, or writes none of it if there is no
+    // room for all.
+    pub fn write_to(&self, memory: &mut [u8]) -> Option<usize>
+        ensures laid { Laid (text_of self.now) memory.old (is_some result) memory.new }
+        ensures length { IfSome result (λ n. n ≡ length (text_of self.now)) }
     {
         let bytes = self.as_bytes();
         if bytes.len() > memory.len() {
-            return false;
+            return None;
         }
         memory[..bytes.len()].copy_from_slice(bytes);
-        true
+        Some(bytes.len())
+    }
+
+    // The same, for a caller that needs no length.
+    pub fn lay(&self, memory: &mut [u8]) -> bool
+        ensures { Laid (text_of self.now) memory.old result memory.new }
+    {
+        self.write_to(memory).is_some()
     }
 }
