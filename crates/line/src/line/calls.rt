@@ -110,13 +110,12 @@ impl<P: Plan> Line<P> {
             dial: self.dial,
             ending,
         };
-        let text = report.text();
-        if !text.lay(memory) {
+        let Some(length) = report.text().write_to(memory) else {
             return Err((Refusal::Memory, receipt));
-        }
+        };
         let _ = receipt.spend();
         self.phase = Phase::Idle;
-        Ok(text.len())
+        Ok(length)
     }
 
     // Takes the receipt and writes nothing.
