@@ -18,6 +18,10 @@ use Rattle.plancheck.specs.Stores.{Store}
 pub coded_same : (ks ls : List ℕ) (a b : Entries) → ks ≡ ls → Same a b → Same (Behind ks a) (Behind ls b)
 coded_same ks ls a b e s = subst (λ (ms : List ℕ). Same (Behind ks a) (Behind ms b)) e (behind_same ks a b s)
 
+-- a set behind a code, and the same code
+pub behind_code : (ks ls : List ℕ) (made a : Entries) → ks ≡ ls → Same made (Behind ks a) → Same made (Behind ls a)
+behind_code ks ls made a e s = subst (λ (ms : List ℕ). Same made (Behind ms a)) e s
+
 -- two sets side by side, each the same as another
 pub pair_of : (made a b x y : Entries) → Same made (Either a b) → Same a x → Same b y → Same made (Either x y)
 pair_of made a b x y s p q = same_trans made (Either a b) (Either x y) s (either_same a b x y p q)
