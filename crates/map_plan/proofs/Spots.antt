@@ -57,7 +57,7 @@ any_filter t q (x ∷ xs) = any_kept t q x xs (t x) (any_filter t q xs)
 
 module _ (live : Places) (p : Node → Bool) where
   -- whether some place is live and passes, counted from k on
-  abbrev live_from : ℕ → List Node → Bool
+  abbrev pub live_from : ℕ → List Node → Bool
   live_from k ns = list_any (λ (x : ℕ × Node). holds live x.0 && p x.1) (enumerate_from k ns)
 
   found_from : (k : ℕ) (ns : List Node) → live_from k ns ≡ true →
@@ -81,7 +81,7 @@ module _ (live : Places) (p : Node → Bool) where
       or_right (holds live k && p n) (live_from (k + 1) ns)
       (finds_from (k + 1) i ns (subst (λ j. holds live j ≡ true) y v) a)
 
-  tells_from : (ns : List Node) (r : Bool) → r ≡ live_from 0 ns → Tells (SomeLive ns live p) r
+  pub tells_from : (ns : List Node) (r : Bool) → r ≡ live_from 0 ns → Tells (SomeLive ns live p) r
   tells_from ns true e =
       let x = found_from 0 ns (sym e) in ∣ (x.0, subst (λ i. holds live i ≡ true) (zero-add x.0) x.1, x.2) ∣₁
   tells_from ns false e =
