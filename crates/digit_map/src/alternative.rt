@@ -14,7 +14,8 @@ use crate::progress::{Act, Frame, Last, Progress};
 use crate::reader::Reader;
 use crate::sign::Sign;
 
-// What a sign does, where `positions` positions stand before it.
+// What a sign does, where `positions` positions stand before it. A Z that waits has arms of its own: behind
+// arms that are shared with it, the check does not read its offset.
 fn act(
     frame: Frame,
     positions: usize,

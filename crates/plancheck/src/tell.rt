@@ -23,7 +23,8 @@ fn tell_one<P: Plan + Drop>(heap: Global, mut plan: P, row: &[Symbol]) -> Result
     Ok(tell_row(heap, &mut plan, row)?)
 }
 
-// Makes the plan from what is kept, and tells each key of the row.
+// Makes the plan from what is kept, and tells each key of the row. Each make is a plan of a type of its own, so a
+// match makes it.
 pub fn tell(kept: &Kept, make: Make, row: &[Symbol]) -> Result<String, Stop>
     ensures cases { Tried (store_of kept.now) (materials make) result }
     ensures told { IfOk result (λ s. RowTold (entries_of (store_of kept.now) make)

@@ -26,7 +26,7 @@ impl Draft {
         }
     }
 
-    // One position more.
+    // One position more. It and an end are two methods, since each keeps a limit of its own.
     pub(crate) fn put(&mut self, position: Position, mark: Mark, marked: bool)
         requires { count_positions (drafted self.old) < 255 }
         ensures places { drafted self.new ≡ drafted self.old ++ awaiting position mark marked ∷ [] }

@@ -24,6 +24,7 @@ enum Input {
     Expire(Timer),
 }
 
+// A clause names the members of a bound one by one, so a plan's whole and rest stand side by side in each.
 impl<P: Plan> Line<P> {
     // Arms an idle line: its plan is rewound and its keys ahead are fed to it.
     pub fn arm(&mut self, settings: Settings) -> Result<Progress, Refusal>

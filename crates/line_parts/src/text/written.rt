@@ -46,6 +46,7 @@ impl Text {
         ensures laid { Laid (text_of self.now) memory.old (is_some result) memory.new }
         ensures length { IfSome result (λ n. n ≡ length (text_of self.now)) }
     {
+        // Tried by get_mut and a `?`: two of its goals stay open.
         let bytes = self.as_bytes();
         if bytes.len() > memory.len() {
             return None;
