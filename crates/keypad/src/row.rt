@@ -1,4 +1,4 @@
-ghost use Rattle.std.specs.Prelude.{◌≡◌, ◌≤◌, length};
+ghost use Rattle.std.specs.Prelude.{◌≡◌, ◌≤◌, length, ⊤};
 
 use std::alloc::AllocError;
 
@@ -13,6 +13,10 @@ pub struct Row<T, const N: usize> {
 }
 
 impl<T: Copy, const N: usize> Clone for Row<T, N> {
+    ghost is_clone = { λ x y. y ≡ x };
+
+    ghost is_infallible = { λ _. ⊤ };
+
     fn clone(&self) -> Result<Row<T, N>, AllocError> {
         Ok(*self)
     }
