@@ -22,7 +22,8 @@ impl fmt::Display for Symbol {
     }
 }
 
-// The timing mark in force while a step, or the end of an entry, is awaited, in the order of how long it waits.
+// The timing mark in force while a step, or the end of an entry, is awaited; where entries differ, the later
+// one here prevails.
 #[derive(Clone, Copy, PartialEq, Eq, PartialOrd, Ord, Debug)]
 pub enum Mark {
     Unmarked,

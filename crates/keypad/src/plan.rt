@@ -6,7 +6,8 @@ ghost use Rattle.keypad.specs.Answers.{Tells, Pressed, Timing};
 use crate::key::{Mark, Symbol};
 
 // A plan admits entries. Its whole is the set of these entries and never changes; its rest is what remains of
-// those that begin with the symbols pressed since the last rewind.
+// those that begin with the symbols pressed since the last rewind. Each call that changes a plan says that its
+// whole stays.
 pub trait Plan {
     ghost whole: { Self → Entries };
 

@@ -4,7 +4,9 @@ use std::alloc::AllocError;
 
 pub mod listing;
 
-// At most `N` items, one behind another, in memory of its own. What finds no place in it is left out.
+// At most `N` items, one behind another, in memory of its own. What finds no place in it is left out. The kit's
+// ArrayVec is not Copy, and maps, reports and dial strings are. Copy and Clone are written out, since Clone has
+// no derive beside ghost fields of a generic struct.
 pub struct Row<T, const N: usize> {
     items: [T; N],
     len: usize,
