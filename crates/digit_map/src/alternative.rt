@@ -14,8 +14,8 @@ use crate::progress::{Act, Frame, Last, Progress};
 use crate::reader::Reader;
 use crate::sign::Sign;
 
-// What a sign does, where `positions` positions stand before it. A Z that waits has arms of its own: behind
-// arms that are shared with it, the check does not read its offset.
+// What a sign does, where `positions` positions stand before it. A Z that waits for its position is judged
+// first, since all but keys, a set and a field put it at fault.
 fn act(
     frame: Frame,
     positions: usize,
@@ -32,25 +32,11 @@ fn act(
     let has_room = in_number && positions < 255;
     let placed = progress.go_on(at, progress.mark, false, Last::Position);
     match (progress.last, sign) {
-        (Last::Hold(_), Sign::Keys(keys)) => Ok(Act::Put(
-            Position {
-                keys,
-                long: true,
-                dotted: false,
-            },
-            placed,
-        )),
+        (Last::Hold(_), Sign::Keys(keys)) => Ok(Act::Put(Position::of(keys, true), placed)),
         (Last::Hold(_), Sign::SetOpen) => Ok(Act::OpenSet(true)),
         (_, Sign::Field(_)) => Err(Cause::Head.at(at, number)),
         (Last::Hold(z), _) => Err(Cause::Affix.at(z, number)),
-        (_, Sign::Keys(keys)) if has_room => Ok(Act::Put(
-            Position {
-                keys,
-                long: false,
-                dotted: false,
-            },
-            placed,
-        )),
+        (_, Sign::Keys(keys)) if has_room => Ok(Act::Put(Position::of(keys, false), placed)),
         (_, Sign::SetOpen) if has_room => Ok(Act::OpenSet(false)),
         (_, Sign::Hold) if has_room => Ok(Act::Go(progress.go_on(
             at,
@@ -97,15 +83,7 @@ impl Reader<'_> {
                 }
                 Act::OpenSet(long) => {
                     let keys = self.set(at, frame.number)?;
-                    draft.put(
-                        Position {
-                            keys,
-                            long,
-                            dotted: false,
-                        },
-                        progress.mark,
-                        progress.marked,
-                    );
+                    draft.put(Position::of(keys, long), progress.mark, progress.marked);
                     progress = progress.go_on(at, progress.mark, false, Last::Position);
                 }
                 Act::Halt => {

@@ -83,7 +83,7 @@ impl<'a> Reader<'a> {
         (blanks == 0 || loose || joint_next(rest)).then_some(at + blanks)
     }
 
-    // The next token, and the reader behind it.
+    // Takes the next token; the cursor moves behind it, and stays at a gap.
     pub(crate) fn next(&mut self) -> Token
         ensures same { SamePart self.old self.new }
         ensures reads { Next self.old.text.now self.old.base self.old.cursor result self.new.cursor }

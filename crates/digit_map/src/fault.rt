@@ -25,14 +25,6 @@ impl Cause {
     }
 }
 
-impl From<Cause> for u8 {
-    ghost from_gives = { λ cause number. number ≡ cause_number cause };
-
-    fn from(cause: Cause) -> u8 {
-        cause.number()
-    }
-}
-
 // The first fault of a text: its cause, its offset in bytes from 0, and the alternative being read, which is
 // 1 plus the bars passed, or 0 for a fault of the length or the head.
 #[derive(Clone, Copy, PartialEq, Eq, Debug)]

@@ -18,7 +18,7 @@ pub enum Digits {
     Two(u8),
 }
 
-// What a byte that a field may have does to its reader.
+// What a byte that a field may have does to its reader. std's ControlFlow would call them Continue and Break.
 #[derive(Clone, Copy)]
 pub enum FieldTurn {
     On(Digits),
@@ -56,6 +56,7 @@ fn with_field(timers: Timers, field: Field, value: u8) -> Timers
     }
 }
 
+// What a byte does to a field's reader: none for a byte that no field has there.
 fn turn_field(field: Field, digits: Digits, byte: u8) -> Option<FieldTurn>
     requires { SoundDigits digits }
     ensures value { result ≡ field_turn field digits byte }

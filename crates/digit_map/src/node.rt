@@ -1,3 +1,6 @@
+ghost use Rattle.std.specs.Prelude.{◌≡◌, false};
+ghost use Rattle.digit_map.specs.Nodes.{position};
+
 use keypad::key::Mark;
 
 // A position of an alternative: its keys as bits, whether its steps are long, and whether a dot makes it zero
@@ -9,9 +12,23 @@ pub struct Position {
     pub dotted: bool,
 }
 
+impl Position {
+    // One without a dot.
+    pub(crate) fn of(keys: u16, long: bool) -> Position
+        ensures { result ≡ position keys long false }
+    {
+        Position {
+            keys,
+            long,
+            dotted: false,
+        }
+    }
+}
+
 // A place of an alternative: the position that is awaited there, or none at its end; the mark in force; and
 // whether a mark stands right before it. An alternative is held exactly when a mark stands right before its
-// end. The two of a mark are no pair of their own: what follows a mark keeps the one and resets the other.
+// end. `mark` and `marked` make no struct of their own: what follows a mark keeps the first and resets the
+// second.
 #[derive(Clone, Copy)]
 pub struct Node {
     pub awaits: Option<Position>,

@@ -34,7 +34,8 @@ pub struct Frame {
     pub number: u8,
 }
 
-// What a sign that may stand there does to an alternative's reader.
+// What a sign that may stand there does to an alternative's reader. One answer to each sign, so that what `act`
+// promises is one equation; OpenSet says whether a Z stood before it.
 #[derive(Clone, Copy)]
 pub enum Act {
     Go(Progress),
@@ -76,8 +77,8 @@ impl Progress {
         }
     }
 
-    // Where alternative `number` may end, if `here`; with `judged`, one that needs no key is at fault as
-    // such.
+    // Ends alternative `number`, if `here` says that it may end there. With `judged`, one that needs no key
+    // is refused for that first.
     pub(crate) fn halt(self, number: u8, at: usize, here: bool, judged: bool) -> Result<Act, Fault>
         ensures { result ≡ at_halt number self at here judged self.last }
     {

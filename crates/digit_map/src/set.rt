@@ -17,7 +17,7 @@ pub enum Place {
     From(u8),
 }
 
-// What a byte that a set may have does to its reader.
+// What a byte that a set may have does to its reader. std's ControlFlow would call them Continue and Break.
 #[derive(Clone, Copy)]
 pub enum SetTurn {
     On(Place, u16),

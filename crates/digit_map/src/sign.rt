@@ -29,7 +29,7 @@ pub enum Sign {
     Other,
 }
 
-// The key that a letter A to F writes, in either case.
+// The key that a letter A to F writes, in either case. Its letter is a key's, so it answers no Option.
 pub(crate) fn key_of_letter(letter: u8) -> u8
     requires { key_letter_lem letter ≡ true }
     ensures { result ≡ letter_key letter }

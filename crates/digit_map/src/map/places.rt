@@ -9,6 +9,7 @@ use crate::map::Map;
 use crate::node::Node;
 use keypad::timers::Timers;
 
+// A draft is not shown: a map answers for it.
 impl Map {
     // A map whose text is read to its end.
     pub(crate) fn finish(draft: Draft) -> Map

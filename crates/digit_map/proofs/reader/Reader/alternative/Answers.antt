@@ -43,7 +43,7 @@ signs-preserved c =
           c.positions.ensures k.keys d e
           (by_part here (λ t b. SetRead t b n c.in_ok-sign.at c.args.frame.number (Ok (k.keys, d)))
           k.ensures.reads)
-          h c.put-in-OpenSet.ensures.places c.put-in-OpenSet.ensures.timers);
+          h (rw c.of.ensures at c.put-in-OpenSet.ensures.places) c.put-in-OpenSet.ensures.timers);
     }
 
 pub returns-in-Halt-clause-reads : goal.returns-in-Halt-clause-reads
