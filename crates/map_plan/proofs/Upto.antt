@@ -4,7 +4,7 @@ use Rattle.std.proofs.lemmas.Bool.{cases_eq}
 use Rattle.keypad.specs.declared.key.Symbol.{Symbol}
 use Rattle.digit_map.specs.declared.node.Node.{Node}
 use Rattle.map_plan.specs.declared.places.Places.{Places}
-use Rattle.map_plan.specs.Members.{holds}
+use Rattle.map_plan.specs.Members.{holds, Added}
 use Rattle.map_plan.specs.Asking.{has_dot, dot_first}
 use Rattle.map_plan.specs.Live.{passing}
 use Rattle.map_plan.proofs.Members.{added_here, added_other}
@@ -17,6 +17,16 @@ passing_first live o i (n ∷ r) = passing live o i n
 or_false : (b : Bool) → (b || false) ≡ b
 or_false true = refl
 or_false false = refl
+
+-- a place that is wanted and added
+pub added_if : (next : Places) (i : ℕ) (wanted : Bool) (last : Places) → wanted ≡ true → Added next i true last →
+    Added next i wanted last
+added_if next i wanted last e h = rw e h
+
+-- one that is not wanted, and nothing is changed
+pub added_not : (next : Places) (i : ℕ) (wanted : Bool) (last : Places) → wanted ≡ false → last ≡ next →
+    Added next i wanted last
+added_not next i wanted last e f = rw (e, f) (λ k. refl)
 
 module _ (ns : List Node) (live : Places) where
   abbrev pub passed : Option Symbol → ℕ → Bool

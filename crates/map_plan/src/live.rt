@@ -47,8 +47,10 @@ pub(crate) fn live_after(plan: &MapPlan, symbol: Option<Symbol>) -> Places
     for (place, node) in plan.map.places().iter().enumerate() {
         let passed = passes(plan, place, *node, symbol);
         let repeats = dotted(*node);
-        live.add_if(place, reached | passed & repeats);
-        reached = reached & repeats | passed;
+        if reached || passed && repeats {
+            live.add(place);
+        }
+        reached = passed || reached && repeats;
     }
     live
 }

@@ -4,6 +4,7 @@ ghost use Rattle.map_plan.specs.Members.{holds, Added};
 // A set of places below 320, one bit to a place.
 #[derive(Clone, Copy)]
 pub struct Places {
+    // Live places are words of bits, so that a press allocates nothing.
     words: [u64; 5],
 }
 
@@ -22,20 +23,10 @@ impl Places {
             .is_some_and(|word| word >> (place % 64) & 1 == 1)
     }
 
-    fn add(&mut self, place: usize)
+    pub(crate) fn add(&mut self, place: usize)
         requires { place < 320 }
         ensures { Added self.old place true self.new }
     {
         self.words[place / 64] |= 1 << (place % 64);
-    }
-
-    // Adds the place if it is wanted.
-    pub(crate) fn add_if(&mut self, place: usize, wanted: bool)
-        requires { place < 320 }
-        ensures { Added self.old place wanted self.new }
-    {
-        if wanted {
-            self.add(place);
-        }
     }
 }
