@@ -26,7 +26,7 @@ impl<P: Plan> CodedPlan<P> {
             (⟦<CodedPlan<P> as Plan>⟧.whole p) (⟦<CodedPlan<P> as Plan>⟧.rest p))
             (λ e. Refused code.now e.0 × (e.1 ≡ part)) }
     {
-        if code.len() < 1 || code.len() > 8 {
+        if code.is_empty() || code.len() > 8 {
             return Err((Refusal::CodeLength, part));
         }
         if !are_keys(code) {
@@ -94,17 +94,11 @@ impl<P: Plan> Plan for CodedPlan<P> {
     }
 
     fn satisfied(&self) -> bool {
-        match self.next_key() {
-            Some(_) => false,
-            None => self.part.satisfied(),
-        }
+        self.next_key().is_none() && self.part.satisfied()
     }
 
     fn settled(&self) -> bool {
-        match self.next_key() {
-            Some(_) => false,
-            None => self.part.settled(),
-        }
+        self.next_key().is_none() && self.part.settled()
     }
 
     fn goes_on(&self) -> bool {

@@ -10,6 +10,7 @@ pub(crate) fn power_of_ten(places: u8) -> u32
 }
 
 // A number's writing is the one list of so many digits that reads as the number.
+// Nothing is done: what counts is the contract.
 pub fn writing_stands() -> u8
     ensures { WritingStands }
 {

@@ -18,10 +18,7 @@ impl Plan for LotPlan {
     }
 
     fn open(&self, symbol: Symbol) -> bool {
-        match symbol {
-            Symbol::Plain(key) => self.continues(key),
-            Symbol::Long(_) => false,
-        }
+        matches!(symbol, Symbol::Plain(key) if self.continues(key))
     }
 
     fn press(&mut self, symbol: Symbol) -> bool {

@@ -11,4 +11,4 @@ returns g c =
     let kept : listed c.extend_from_slice.new.self ≡ code = grind (arith, common_steps) in
     made code (listed c.extend_from_slice.new.self) (g.P.Plan.whole c.args.part)
     (g.P.Plan.whole c.rewind.new.self) (g.P.Plan.rest c.rewind.new.self)
-    (omega arith, omega arith) c.if-not-are_keys.ensures kept c.rewind.ensures.whole c.rewind.ensures.rest
+    (grind (arith, common_steps), omega arith) c.if-not-are_keys.ensures kept c.rewind.ensures.whole c.rewind.ensures.rest
