@@ -103,9 +103,7 @@ mod tests {
 
     #[test]
     fn places(rt: HostRuntime) -> Result<(), Fail> {
-        let Ok(map) = read_map(b"s:7,(Z[a1-3].2S|x)") else {
-            return Err(Fail::new("refused"));
-        };
+        let map = read_map(b"s:7,(Z[a1-3].2S|x)")?;
         assert_eq!(rt; map.timers().short, 7);
         assert_eq!(rt; (map.len(), map.positions(), map.alternatives()), (5, 3, 2));
         assert!(rt;
@@ -126,9 +124,7 @@ mod tests {
 
     #[test]
     fn refused_text_leaves_the_place(rt: HostRuntime) -> Result<(), Fail> {
-        let Ok(mut map) = read_map(b"T:1,5") else {
-            return Err(Fail::new("refused"));
-        };
+        let mut map = read_map(b"T:1,5")?;
         assert!(rt; read_into(&mut map, b"T:2,").is_err());
         assert_eq!(rt; map.timers().start, 1);
         assert!(rt; read_into(&mut map, b"T:3,6").is_ok());

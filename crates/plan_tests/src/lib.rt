@@ -89,10 +89,7 @@ mod tests {
     fn code_refused(heap: Global, code: &[u8]) -> Result<u8, Fail> {
         let part = some_lots(heap)?;
         match CodedPlan::new(code, part) {
-            Ok(plan) => {
-                let _part = plan.into_part();
-                Ok(0)
-            }
+            Ok(_) => Ok(0),
             Err((refusal, _)) => Ok(refusal.number()),
         }
     }
