@@ -58,7 +58,7 @@ pub fn report_lines(heap: Global, input: &[u8]) -> Result<String, AllocError>
     ensures { IfOk result (λ s. AllReported (lines input.now) (string_bytes s)) }
 {
     let mut out = String::new(heap);
-    // No split at line feeds: it would find one line more behind a last line feed.
+    // No `split_inclusive`: each line would have to be rid of its line feed.
     let mut rest = input;
     while let Some((line, after)) = first_line(rest) {
         let told = report(heap, line)?;

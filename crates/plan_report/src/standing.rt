@@ -13,7 +13,7 @@ pub struct Standing {
     pub mark: Mark,
 }
 
-// The letter of a mark. These words are this report's alone, so a mark has no Display of its own.
+// The word for a mark. It is this report's alone, so a mark has no Display of its own.
 fn mark_name(mark: Mark) -> &'static str
     ensures { result.now ≡ mark_word mark }
 {

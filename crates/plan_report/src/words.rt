@@ -1,4 +1,4 @@
-//! Symbols, answers and marks in words.
+//! A symbol, and the line that tells a key, in words.
 ghost use Rattle.std.specs.Prelude.{◌≡◌, IfOk, string_bytes};
 ghost use Rattle.map_report.specs.Writes.{Adds};
 ghost use Rattle.plan_report.specs.Words.{named, key_line};

@@ -12,6 +12,7 @@ mod part;
 
 // The last map, the last lots with their width, and the last code. At first there is no map, the width is 0
 // and the code has no keys, so that no plan can be made. All that is made of them lies in the same memory.
+// A width and its lots are two fields, as a plan of lots takes them.
 #[derive(Drop)]
 pub struct Kept {
     pub heap: Global,

@@ -72,6 +72,7 @@ pub fn answer_lines(heap: Global, input: &[u8]) -> Result<String, AllocError>
 {
     let mut kept = Kept::new(heap);
     let mut out = String::new(heap);
+    // No `split_inclusive`: each line would have to be rid of its line feed.
     let mut rest = input;
     while let Some((line, after)) = first_line(rest) {
         let told = answer(&mut kept, line)?;
