@@ -66,6 +66,7 @@ fn number_of(word: &[u8]) -> Option<u32>
     if word.is_empty() {
         return None;
     }
+    // No `try_fold`: tried with no proof file, and the check alone did not prove it.
     let mut number = 0;
     for letter in word {
         number = with_digit(number, *letter)?;
