@@ -74,8 +74,7 @@ mod tests {
 
     // Whether a text is so written.
     fn shows(text: Text, want: &str) -> bool {
-        let mut memory = [0; 85];
-        text.lay(&mut memory) && &memory[0..text.len()] == want.as_bytes()
+        text.as_bytes() == want.as_bytes()
     }
 
     #[test]

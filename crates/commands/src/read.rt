@@ -44,7 +44,7 @@ fn timer_of(letter: u8) -> Option<Timer>
     }
 }
 
-// The number that a digit stands for, by its range: a digit of a char is a u32, and a cast more.
+// The number that a digit stands for. `to_digit` would answer a u32, which had to be narrowed.
 fn digit_of(letter: u8) -> Option<u8>
     ensures { Finds (Digit letter) result }
 {

@@ -12,7 +12,8 @@ use keypad::plan::Plan;
 use keypad::timers::Timers;
 
 // The symbol that a key would be pressed as: its long one if it is long and that is open, else its plain one.
-// The key and whether it is long stay two parameters: a struct of them would be neither the event nor the symbol.
+// The key and whether it is long stay two parameters, here and in press_key and extra: a struct of them would be
+// neither the event nor the symbol.
 pub fn chosen<P: Plan>(plan: &P, long: bool, key: u8) -> Option<Symbol>
     ensures { Chosen (P.Plan.rest plan.now) long key result }
 {

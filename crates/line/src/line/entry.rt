@@ -159,6 +159,7 @@ impl<P: Plan> Line<P> {
         if !settings.lawful() {
             return Err(Refusal::Setting);
         }
+        // A name of its own: tested in the `if`, the bound would be part of the name of the case that is proved.
         let spent = self.count >= 999_999;
         if spent {
             return Err(Refusal::Reports);

@@ -41,6 +41,7 @@ impl<P> Line<P> {
     }
 
     // Takes the line apart and hands the plan back as it stands.
+    // By a pattern: `self.plan` would let the rest of the line go, and a line is not `Drop`.
     pub fn into_plan(self) -> P
         ensures { result ≡ self.plan }
     {

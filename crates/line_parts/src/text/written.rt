@@ -55,7 +55,7 @@ impl Text {
         Some(bytes.len())
     }
 
-    // The same, for a caller that needs no length.
+    // Whether there was room: `write_to` without the length.
     pub fn lay(&self, memory: &mut [u8]) -> bool
         ensures { Laid (text_of self.now) memory.old result memory.new }
     {
