@@ -18,8 +18,7 @@ fn print(text: Text, memory: &mut [u8]) -> usize
     requires { 85 ≤ length memory.old }
     ensures { Printed (text_of text) memory.old result memory.new }
 {
-    let _ = text.lay(memory);
-    text.len()
+    text.write_to(memory).unwrap()
 }
 
 // Gives a command that was read to the line, prints what is told of it and answers the length of that.

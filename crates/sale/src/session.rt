@@ -31,6 +31,7 @@ pub fn obey_lines<P: Plan>(
     let mut memory = [0; 85];
     let mut out = Vec::new(heap);
     let mut rest = input;
+    // No `split_inclusive`: each line would have to be rid of its line feed.
     while let Some((bytes, after)) = first_line(rest) {
         if let Ok(length) = obey(line, timers, bytes, &mut memory) {
             out.extend_from_slice(&memory[0..length])?;
