@@ -1,8 +1,7 @@
 //! The events of a row, played on a line.
-use commands::command::Command;
-use commands::read::read_command;
 use key_record::answer::Progress;
 use key_record::refusal::Refusal;
+use keypad::letter::key_of;
 use keypad::plan::Plan;
 use line::line::Line;
 
@@ -12,10 +11,8 @@ fn give<P: Plan>(line: &mut Line<P>, event: u8) -> Result<Progress, Refusal> {
         let (timer, _) = line.timer().ok_or(Refusal::NoTimer)?;
         return line.expire(timer);
     }
-    let Some(Command::Key(pressed)) = read_command(&[b'k', event]) else {
-        return Err(Refusal::Key);
-    };
-    line.key(pressed.key, pressed.tenths)
+    let key = key_of(event).ok_or(Refusal::Key)?;
+    line.key(key, 1)
 }
 
 // Plays events up to the report, and answers how many are left behind it. A refused one changes nothing.
