@@ -8,7 +8,7 @@ use std::io::{Read, Write};
 // Input past this many bytes is not read.
 const MOST: u64 = 65536;
 
-// Each program reads its input itself: no contract can say what a shared reader would get.
+// Each program reads its input itself: a shared reader would be public, and no contract can pin what it gets.
 fn main(rt: HostRuntime) -> io::Result<()> {
     let mut input = Vec::new(rt.alloc());
     rt.stdin().take(MOST).read_to_end(&mut input)?;
