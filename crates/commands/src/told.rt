@@ -1,4 +1,4 @@
-//! What is told of the answer to a command: one line, with its line feed.
+//! What is told of the answer to a command: one line, with its line feed, written by methods of `Text` as a report line is.
 ghost use Rattle.std.specs.Prelude.{◌≡◌, ◌≤◌, ◌++◌, length, decimal};
 ghost use Rattle.line_parts.specs.Texts.{text_of, cut};
 ghost use Rattle.commands.specs.Told.{wait_words, progress_words, no_line, told_line, unreadable_number};

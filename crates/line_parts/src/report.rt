@@ -1,4 +1,4 @@
-//! The report line.
+//! The report line, written by methods of `Text` and not by Display, for the reason that stands there.
 ghost use Rattle.std.specs.Prelude.{◌≡◌, [], ◌∷◌, ◌++◌};
 ghost use Rattle.key_record.specs.Letters.{symbol_text, dial_text, timer_letter_lem};
 ghost use Rattle.key_record.specs.Letters.{expiry_text, method_text, extra_text, report_line};

@@ -1,4 +1,4 @@
-//! Replies, the open entry and keys in words.
+//! Replies, the open entry and keys in words, written by methods of `Text` as a report line is.
 ghost use Rattle.std.specs.Prelude.{◌≡◌, ◌≤◌, [], ◌∷◌, ◌++◌, length, if◌then◌else◌, decimal};
 ghost use Rattle.line_parts.specs.Dialled.{dialled, dialled_in};
 ghost use Rattle.line_parts.specs.Texts.{text_of, cut};
