@@ -37,14 +37,19 @@ mod tests {
         Ok(())
     }
 
+    // The plan of these lots with so many digits.
+    fn lots_of(heap: Global, lots: &[u32], width: u8) -> Result<LotPlan, Fail> {
+        LotPlan::new(Vec::from_slice(heap, lots)?, width).map_err(|_| Fail::new("refused"))
+    }
+
     // The lots 7, 42, 7 and 1000 with three digits.
     fn some_lots(heap: Global) -> Result<LotPlan, Fail> {
-        LotPlan::new([7, 42, 7, 1000].to_vec(heap)?, 3).map_err(|_| Fail::new("refused"))
+        lots_of(heap, &[7, 42, 7, 1000], 3)
     }
 
     // A plan of lots that admits nothing: its one number does not fit.
     fn no_lots(heap: Global) -> Result<LotPlan, Fail> {
-        LotPlan::new([1000].to_vec(heap)?, 3).map_err(|_| Fail::new("refused"))
+        lots_of(heap, &[1000], 3)
     }
 
     // How many of the keys a plan takes before it refuses one, and whether it is satisfied then.
@@ -82,6 +87,15 @@ mod tests {
         let mut none = no_lots(rt.alloc())?;
         assert_eq!(rt; keyed(&mut none, &[1]), (0, false), "no number fits");
         assert!(rt; !none.goes_on(), "nothing goes on");
+        let mut twice = lots_of(rt.alloc(), &[42, 42], 2)?;
+        assert_eq!(rt;
+            keyed(&mut twice, &[4, 2, 4]),
+            (2, true),
+            "a number listed twice"
+        );
+        let mut bare = lots_of(rt.alloc(), &[], 1)?;
+        assert_eq!(rt; keyed(&mut bare, &[0]), (0, false), "an empty list");
+        assert!(rt; !bare.goes_on(), "an empty list does not go on");
         Ok(())
     }
 
@@ -110,14 +124,10 @@ mod tests {
             ("a key above 15", 7, 9, 61),
         ];
         for (name, from, to, want) in rows {
-            if from <= to && to <= code.len() {
-                assert_eq!(rt;
-                    code_refused(rt.alloc(), &code[from..to])?,
-                    want,
-                    "{}",
-                    name
-                );
-            }
+            let Some(keys) = code.get(from..to) else {
+                return Err(Fail::new("no such part of the keys"));
+            };
+            assert_eq!(rt; code_refused(rt.alloc(), keys)?, want, "{}", name);
         }
         Ok(())
     }
@@ -144,6 +154,8 @@ mod tests {
             (0, false),
             "a code over nothing opens nothing"
         );
+        let barred = CodedPlan::new(&[14], no_lots(rt.alloc())?).map_err(|_| Fail::new("refused"))?;
+        assert!(rt; !barred.goes_on(), "nor does it go on");
         Ok(())
     }
 
