@@ -2,8 +2,7 @@
 use Rattle.std.specs.Prelude.{ℕ, List, [], ◌∷◌, ◌++◌, codes}
 use Rattle.std.specs.List.{flat_map}
 use Rattle.keypad.specs.declared.key.Symbol.{Symbol}
-use Rattle.keypad.specs.declared.key.Symbol.TheVariants.{Plain, Long}
-use Rattle.keypad.specs.Letters.{letter_of}
+use Rattle.keypad.specs.Letters.{letter_of, symbol_name}
 use Rattle.key_record.specs.declared.ending.Ending.{Ending}
 use Rattle.key_record.specs.declared.ending.Method.{Method}
 use Rattle.key_record.specs.declared.ending.Method.TheVariants.{Unambiguous, Full, Partial}
@@ -18,8 +17,7 @@ key_letter_lem = letter_of
 
 -- a symbol: its key, with a Z in front if it is long
 abbrev pub symbol_text : Symbol → List ℕ
-symbol_text (Plain k) = key_letter_lem k ∷ []
-symbol_text (Long k) = 90 ∷ key_letter_lem k ∷ []
+symbol_text = symbol_name
 
 abbrev pub dial_text : List Symbol → List ℕ
 dial_text = flat_map symbol_text
