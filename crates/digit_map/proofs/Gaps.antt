@@ -59,6 +59,17 @@ passed [] o = ap (λ n. tokens true n []) (omega arith)
 passed (b ∷ bs) o =
     passed_by b bs (blank b) refl (passed bs) o
 
+-- behind the blanks that a text begins with stands the same joint
+joint_by : (b : ℕ) (bs : List ℕ) (x : Bool) → blank b ≡ x
+    → joint_ahead (drop (prefix_len blank bs) bs) ≡ joint_ahead bs
+    → joint_ahead (drop (cond x (1 + prefix_len blank bs) 0) (b ∷ bs)) ≡ cond x (joint_ahead bs) (joint b)
+joint_by b bs true e h = rw one-add h
+joint_by b bs false e h = cond-false _ _ _ e
+
+pub joint_behind : (xs : List ℕ) → joint_ahead (drop (prefix_len blank xs) xs) ≡ joint_ahead xs
+joint_behind [] = refl
+joint_behind (b ∷ bs) = joint_by b bs (blank b) refl (joint_behind bs)
+
 -- no blank at n
 module _ (text : List ℕ) (n : ℕ) (h : n < length text) (e : blank (get_or text n 0) ≡ false) where
   token_here : (j : Bool) (o : ℕ)

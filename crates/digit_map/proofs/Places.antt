@@ -1,7 +1,6 @@
 -- The places of a map: their counts, one more place, a dot behind the last. Assumes nothing.
-use Rattle.std.proofs.Common.{◌≡◌, ℕ, ◌+◌, ◌-◌, ◌<◌, List, [], ◌∷◌, ◌++◌, length, slice_get, unwrap_or, zero-add, cond, is_none, count_by, take, set, zero, suc, Some, None, Option, sym, refl, ap, ◌∙◌, arith}
+use Rattle.std.proofs.Common.{◌≡◌, ℕ, ◌+◌, ◌-◌, ◌<◌, List, [], ◌∷◌, ◌++◌, length, slice_get, unwrap_or, take, set, zero, suc, Some, None, Option, sym, refl, ap, ◌∙◌, arith}
 use Rattle.std.proofs.lemmas.List.{take_all, length_push}
-use Rattle.std.proofs.lemmas.List.Recursion.{is_count_by}
 use Rattle.std.proofs.lemmas.Option.{slice_get_within, slice_get-get_or}
 use Rattle.digit_map.specs.declared.node.Position.{Position}
 use Rattle.digit_map.specs.declared.node.Node.{Node}
@@ -17,13 +16,6 @@ position_or_end None = refl
 pub counts_add : (ns : List Node) → count_positions ns + count_ends ns ≡ length ns
 counts_add [] = refl
 counts_add (n ∷ ns) = let h = counts_add ns in let k = position_or_end n.awaits in omega arith
-
-end_more : (o : Option Position) (k : ℕ) → no_position o + k ≡ cond (is_none o) (1 + k) k
-end_more (Some p) k = zero-add k
-end_more None k = refl
-
-pub ends_by : (ns : List Node) → count_ends ns ≡ count_by (λ (n : Node). is_none n.awaits) ns
-ends_by ns = is_count_by count_ends _ refl (λ n r. end_more n.awaits (count_ends r)) ns
 
 pub positions_push : (ns : List Node) (n : Node) →
     count_positions (ns ++ n ∷ []) ≡ count_positions ns + some_position n.awaits

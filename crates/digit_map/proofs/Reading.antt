@@ -1,5 +1,5 @@
 -- A text is read exactly: as its map, or with its fault. Assumes nothing.
-use Rattle.std.proofs.Common.{◌≡◌, ℕ, ◌<◌, ◌≤◌, Bool, true, false, ltb, leb, ◌⊎◌, List, [], length, Ok, Err, sym, refl, ap, ◌∙◌, subst, inl, inr, ⊎_elim, arith}
+use Rattle.std.proofs.Common.{◌≡◌, ℕ, ◌<◌, ◌≤◌, Bool, true, false, ltb, leb, ◌⊎◌, List, [], length, drop, Ok, Err, sym, refl, ap, ◌∙◌, subst, inl, inr, ⊎_elim, arith}
 use Rattle.std.proofs.lemmas.Bool.{cond-true, cond-false, and_parts, and_from, and_cases, and_left, and_right, ltb-true, leb-true, ltb-false, leb-false, lt-ltb, le-leb, le-ltb, lt-leb}
 use Rattle.keypad.specs.declared.timers.Timers.{Timers}
 use Rattle.digit_map.specs.declared.fault.Cause.TheVariants as cause
@@ -13,8 +13,8 @@ use Rattle.digit_map.specs.Drafts.{drafted}
 use Rattle.digit_map.specs.Proper.{proper}
 use Rattle.digit_map.specs.Maps.{places, timers_of}
 use Rattle.digit_map.specs.Limits.{sale}
-use Rattle.digit_map.specs.Turns.{done, bad, start, run}
-use Rattle.digit_map.specs.Reads.{sized, reads, DraftRead}
+use Rattle.digit_map.specs.Turns.{done, bad, start, run, state, in_head}
+use Rattle.digit_map.specs.Reads.{sized, reads, HeadRead, AlternativesRead, DraftRead}
 use Rattle.digit_map.specs.Derives.{Derives, FaultOf, by_length, by_token, ReadExactly}
 use Rattle.digit_map.proofs.WholePass.{whole_pass}
 use Rattle.digit_map.proofs.Exact.{at_start}
@@ -29,7 +29,7 @@ use Rattle.digit_map.proofs.Turning.{turning}
 
 module _ (text : List ℕ) where
   -- a text of a fitting length
-  fitting : 0 < length text → length text ≤ 2048 → sized text ≡ true
+  pub fitting : 0 < length text → length text ≤ 2048 → sized text ≡ true
   fitting h k = and_from (ltb 0 (length text)) (leb (length text) 2048) (lt-ltb 0 (length text) h)
       (le-leb (length text) 2048 k)
 
@@ -49,6 +49,22 @@ module _ (text : List ℕ) where
 
   tokens_read : sized text ≡ true → reads text ≡ run sale start (tokens false 0 text)
   tokens_read e = cond-true _ _ _ e
+
+  -- the head and the alternatives behind it are read, to their end or to a fault
+  module _ (ts : Timers) (n : ℕ) (m w : Draft) (e : sized text ≡ true) (h : HeadRead text (Ok (ts, n)))
+      (q : m.timers ≡ ts) where
+    behind : reads text ≡ run sale (state m.timers [] (in_head 4)) (tokens (ltb 0 n) n (drop n text))
+    behind =
+        tokens_read e
+        ∙ (h.1 ∙ ap (λ t. run sale (state t [] (in_head 4)) (tokens (ltb 0 n) n (drop n text))) (sym q))
+
+    pub whole_ok : {u : Unit {0}} → AlternativesRead (drop n text) n (ltb 0 n) m w (Ok u) →
+        DraftRead text (Ok w)
+    whole_ok a = behind ∙ (a.1 ∙ ap (λ t. done t (drafted w)) (sym a.0))
+
+    pub whole_bad : {f : Fault} → AlternativesRead (drop n text) n (ltb 0 n) m w (Err f) →
+        DraftRead text (Err f)
+    whole_bad a = behind ∙ a
 
   read_derived : (t : Timers) (ns : List Node) → Derives text t ns → reads text ≡ done t ns
   read_derived t ns d =

@@ -1,4 +1,4 @@
-ghost use Rattle.std.specs.Prelude.{◌≡◌, ◌+◌, ◌^◌, ◌<◌, ◌&&◌, length, not, find};
+ghost use Rattle.std.specs.Prelude.{◌≡◌, ◌+◌, ◌^◌, ◌<◌, ◌≤◌, ◌&&◌, length, not, find};
 ghost use Rattle.std.specs.List.{prefix_len};
 ghost use Rattle.digit_map.specs.Bytes.{blank, joint, field_letter};
 ghost use Rattle.digit_map.specs.Tokens.{joint_ahead, colon_ahead, Next};
@@ -28,7 +28,8 @@ fn is_field_letter(byte: u8) -> bool
 
 // How many blanks a text begins with.
 fn leading_blanks(text: &[u8]) -> usize
-    ensures { result ≡ prefix_len blank text.now }
+    ensures value { result ≡ prefix_len blank text.now }
+    ensures bound { result ≤ length text.now }
 {
     text.iter().take_while(|byte| is_blank(**byte)).count()
 }
@@ -80,7 +81,7 @@ impl<'a> Reader<'a> {
         let Cursor { at, loose } = self.cursor;
         let rest = &self.text[at..];
         let blanks = leading_blanks(rest);
-        (blanks == 0 || loose || joint_next(rest)).then_some(at + blanks)
+        (blanks == 0 || loose || joint_next(&rest[blanks..])).then_some(at + blanks)
     }
 
     // Takes the next token; the cursor moves behind it, and stays at a gap.

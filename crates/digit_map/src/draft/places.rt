@@ -23,6 +23,7 @@ impl Draft {
             timers,
             nodes: Row::of(end),
             positions: 0,
+            alternatives: 0,
         }
     }
 
@@ -51,6 +52,7 @@ impl Draft {
             mark,
             marked,
         });
+        self.alternatives += 1;
     }
 
     // A dot behind the last position.
@@ -90,10 +92,7 @@ impl Draft {
     pub(crate) fn alternatives(&self) -> usize
         ensures { result ≡ count_ends (drafted self.now) }
     {
-        self.places()
-            .iter()
-            .filter(|node| node.awaits.is_none())
-            .count()
+        self.alternatives
     }
 
     pub(crate) fn places(&self) -> &[Node]

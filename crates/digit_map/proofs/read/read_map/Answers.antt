@@ -1,18 +1,20 @@
--- What the inner reader answers is proper and exact. Assumes nothing.
+-- A text is refused for its length, or by its head, or read on. Assumes nothing.
+use Rattle.std.proofs.Common.{rules, Err}
 use Rattle.std.proofs.lemmas.Result.{err_from_is_err_and}
-use Rattle.digit_map.proofs.Reading.{read_proper, exact_map, exact_fault}
+use Rattle.digit_map.specs.Reads.{DraftRead}
+use Rattle.digit_map.proofs.Reading.{fitting, exact_fault}
 use Rattle.digit_map.proofs.read.read_map.Goals as goal
 
-pub returns-in_err-draft : goal.returns-in_err-draft
-returns-in_err-draft c =
+pub returns-then-is_empty : goal.returns-then-is_empty
+returns-then-is_empty c =
+    let read : DraftRead c.args.text.now (Err c.at.result) = search rules in
+    exact_fault c.args.text.now _ read
+
+pub returns-in_err-timers : goal.returns-in_err-timers
+returns-in_err-timers c =
     let p = err_from_is_err_and c.from_residual.result c.from_residual.ensures.1 in
-    rw (p.1, p.2) (exact_fault c.args.text.now _ c.in_err-draft.ensures)
+    let read : DraftRead c.args.text.now (Err c.in_err-timers.field-0.0) = search rules in
+    rw (p.1, p.2) (exact_fault c.args.text.now _ read)
 
-pub finish-requires : goal.finish-requires
-finish-requires c =
-    let k = c.in_ok-draft in read_proper c.args.text.now k.draft k.ensures
-
-pub returns : goal.returns
-returns c =
-    let k = c.in_ok-draft in
-    exact_map c.args.text.now k.draft c.finish.result k.ensures c.finish.ensures
+pub read_behind-requires-clause-sized : goal.read_behind-requires-clause-sized
+read_behind-requires-clause-sized c = fitting c.args.text.now (search rules) c.if-text-gt2048.false

@@ -13,7 +13,7 @@ invariant_of-self c =
     ∙ dots_last ns _ _ _ (search rules) (sym c.get.ensures ∙ c.in-Some.is) (omega arith) in
     let p = ap count_positions e ∙ positions_dot_last ns in
     let q = ap count_ends e ∙ ends_dot_last ns in
-    record { counted = omega arith; few = omega arith; ended = omega arith }
+    record { counted = omega arith; few = omega arith; ended = omega arith; within = omega arith }
 
 pub returns-in-Some-clause-places : goal.returns-in-Some-clause-places
 returns-in-Some-clause-places c =

@@ -13,7 +13,7 @@ invariant_of-self c =
     let e = c.push.ensures ∙ pushed ns n (omega arith) in
     let p = ap count_positions e ∙ positions_push ns n in
     let q = ap count_ends e ∙ ends_push ns n in
-    record { counted = omega arith; few = omega arith; ended = omega arith }
+    record { counted = omega arith; few = omega arith; ended = omega arith; within = omega arith }
 
 pub returns-clause-places : goal.returns-clause-places
 returns-clause-places c =
