@@ -1,6 +1,6 @@
 -- The places of a map, by their index. Assumes nothing.
-use Rattle.std.proofs.Common.{◌≡◌, ℕ, zero, suc, ◌&&◌, subst, zero-add, add-zero, cond, ◌||◌, ◌+◌, ◌<◌, Bool, true, false, List, [], ◌∷◌, length, get_or, drop, Option, sym, refl, ap, ◌∙◌, ⊎_elim, arith}
-use Rattle.std.specs.List.{list_any, enumerate_from, filter}
+use Rattle.std.proofs.Common.{◌≡◌, ℕ, zero, suc, ◌&&◌, subst, zero-add, add-zero, ◌+◌, ◌<◌, Bool, true, false, List, [], ◌∷◌, length, get_or, drop, Option, sym, refl, ap, ◌∙◌, ⊎_elim, arith}
+use Rattle.std.specs.List.{list_any, enumerate_from}
 use Rattle.std.proofs.lemmas.List.{drop-drop, drop_all, drop_more}
 use Rattle.std.proofs.lemmas.Bool.{both_ways, cases_lt, and_parts, and_from, or_cases, or_left, or_right}
 use Rattle.keypad.specs.declared.key.Mark.{Mark}
@@ -44,17 +44,6 @@ answered_inside ns q i a =
     ⊎_elim (λ l. l) (λ l. absurd (both_ways false refl (sym (ap (answered q) (drop_all i ns l)) ∙ a)))
     (cases_lt i (length ns))
 
-any_kept : {X : Type 0} (t q : X → Bool) (x : X) (xs : List X) (b : Bool) →
-    list_any q (filter t xs) ≡ list_any (λ y. t y && q y) xs →
-    list_any q (cond b (x ∷ filter t xs) (filter t xs)) ≡ ((b && q x) || list_any (λ y. t y && q y) xs)
-any_kept t q x xs true e = ap (λ r. q x || r) e
-any_kept t q x xs false e = e
-
-any_filter : {X : Type 0} (t q : X → Bool) (xs : List X) →
-    list_any q (filter t xs) ≡ list_any (λ x. t x && q x) xs
-any_filter t q [] = refl
-any_filter t q (x ∷ xs) = any_kept t q x xs (t x) (any_filter t q xs)
-
 module _ (live : Places) (p : Node → Bool) where
   -- whether some place is live and passes, counted from k on
   abbrev pub live_from : ℕ → List Node → Bool
@@ -87,11 +76,3 @@ module _ (live : Places) (p : Node → Bool) where
   tells_from ns false e =
       λ x. both_ways false refl
       (e ∙ finds_from 0 x.0 ns (subst (λ i. holds live i ≡ true) (sym (zero-add x.0)) x.1) x.2)
-
-  -- the live places are asked one behind another
-  pub some_live : (ns : List Node) (r : Bool) →
-      r ≡ list_any (λ (x : ℕ × Node). p x.1)
-      (filter (λ (x : ℕ × Node). holds live x.0) (enumerate_from 0 ns)) →
-      Tells (SomeLive ns live p) r
-  some_live ns r e =
-      tells_from ns r (e ∙ any_filter (λ x. holds live x.0) (λ x. p x.1) (enumerate_from 0 ns))

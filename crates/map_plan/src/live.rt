@@ -17,17 +17,19 @@ pub(crate) fn any_live<F: Fn(Node) -> bool>(plan: &MapPlan, asks: F) -> bool
     requires { F.IsAlwaysCallable asks }
     ensures { (p : Node → Bool) → Asks (F.post asks) p → Tells (SomeAnswers plan.now p) result }
 {
-    plan.map
-        .places()
-        .iter()
-        .enumerate()
-        .filter(|(place, _)| plan.live.has(*place))
-        .any(|(_, node)| asks(*node))
+    // A `for` and no chain: in it each place is known to be one of the set's words, so that no test is made of it.
+    for (place, node) in plan.map.places().iter().enumerate() {
+        if plan.live.has(place) && asks(*node) {
+            return true;
+        }
+    }
+    false
 }
 
 // Whether the place is passed: a live one by a symbol that it takes, or an alternative's end before any
 // symbol. A test handed in would be no plainer: a flag that says whether the map begins would go with it.
 fn passes(plan: &MapPlan, place: usize, node: Node, symbol: Option<Symbol>) -> bool
+    requires { place < 320 }
     ensures { result ≡ passing plan.now.live symbol place node }
 {
     match symbol {

@@ -16,11 +16,10 @@ impl Places {
     }
 
     pub(crate) fn has(&self, place: usize) -> bool
+        requires { place < 320 }
         ensures { result ≡ holds self.now place }
     {
-        self.words
-            .get(place / 64)
-            .is_some_and(|word| word >> (place % 64) & 1 == 1)
+        self.words[place / 64] >> (place % 64) & 1 == 1
     }
 
     pub(crate) fn add(&mut self, place: usize)
