@@ -1,21 +1,11 @@
 -- What is shown of a text, byte by byte. Assumes nothing.
-use Rattle.std.proofs.Common.{◌≡◌, ℕ, ◌/◌, ◌%◌, zero, suc, ◌+◌, ◌-◌, ◌^◌, ◌<◌, true, false, List, [], ◌∷◌, ◌++◌, length, get_or, take, replicate, sym, refl, ap, ◌∙◌, append_assoc, arith, eqb, ne_eqb}
+use Rattle.std.proofs.Common.{◌≡◌, ℕ, zero, suc, ◌+◌, ◌-◌, ◌^◌, ◌<◌, false, List, [], ◌∷◌, ◌++◌, length, get_or, take, replicate, sym, refl, ap, ◌∙◌, append_assoc, arith, eqb, ne_eqb}
 use native.Mathlib.Nat.{sub-zero}
 use Rattle.std.proofs.Math.Utf8.{encode}
-use Rattle.std.specs.Fmt.{padded, padded_integral, format_spec, digits, digit_glyph, styled_text, char_count, take_chars}
+use Rattle.std.specs.Fmt.{padded, format_spec, styled_text, char_count, take_chars}
 use Rattle.std.specs.List.{repeat}
-use Rattle.std.proofs.lemmas.Fmt.{hex_byte}
 use Rattle.std.proofs.lemmas.List.{append-nil, take_more}
-use Rattle.map_report.specs.Escapes.{hex, escape, shown}
-
--- a digit as it is printed
-glyph : (n : ℕ) → digit_glyph true n ≡ hex n
-glyph n = grind arith
-
--- what `{:02X}` prints of a byte
-pub hex_printed : (b : ℕ) → b < 256 →
-    padded_integral (format_spec 32 0 4 2 (2 ^ 64 - 1)) false [] (digits 16 true b) ≡ hex (b / 16) ∷ hex (b % 16) ∷ []
-hex_printed b h = rw (hex_byte true b h, glyph (b / 16), glyph (b % 16))
+use Rattle.map_report.specs.Escapes.{escape, shown}
 
 -- one byte again and again
 repeat_one : (n b : ℕ) → repeat n (b ∷ []) ≡ replicate n b

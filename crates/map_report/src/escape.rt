@@ -1,8 +1,28 @@
 //! Texts written so that a person can read them.
+ghost use Rattle.std.specs.Prelude.{◌≡◌, ◌<◌};
 ghost use Rattle.map_report.specs.Writes.{Adds};
-ghost use Rattle.map_report.specs.Escapes.{escape, shown, excerpt, caret};
+ghost use Rattle.map_report.specs.Escapes.{hex, numbered, escape, shown, excerpt, caret};
 
+use keypad::letter::key_letter;
 use std::alloc::{AllocError, Global};
+
+// The digit of a number below 16, which is the letter of a key.
+fn hex_digit(value: u8) -> char
+    requires { value < 16 }
+    ensures value { result ≡ hex value }
+    ensures bound { result < 128 }
+{
+    char::from(key_letter(value))
+}
+
+// Writes a byte by its number. Its digits are pushed: a `{byte:02X}` takes three times as long.
+fn write_number(out: &mut String, byte: u8) -> Result<(), AllocError>
+    ensures { Adds out.old result (numbered byte) out.new }
+{
+    out.push_str("\\x")?;
+    out.push(hex_digit(byte / 16))?;
+    out.push(hex_digit(byte % 16))
+}
 
 // Writes a byte so that a person can read it. Where memory lacks, nothing is said of what was written.
 // These writers are functions: a wrapped text with a Display would stand beside them and be no plainer.
@@ -14,7 +34,7 @@ pub fn write_byte(out: &mut String, byte: u8) -> Result<(), AllocError>
         b'\r' => out.push_str("\\r"),
         b'\\' => out.push_str("\\\\"),
         b' '..=b'~' => out.push(char::from(byte)),
-        _ => write!(out, "\\x{byte:02X}"),
+        _ => write_number(out, byte),
     }
 }
 
