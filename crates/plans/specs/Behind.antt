@@ -1,14 +1,15 @@
 -- What a set of entries behind a code tells. Assumes nothing.
-use Rattle.std.specs.Prelude.{◌≡◌, ℕ, Bool, true, false, ◌⊎◌, List, [], ◌∷◌, ◌≢◌, refl}
-use Rattle.std.proofs.Common.{sym, ◌∙◌, ap, subst, inl, inr, ⊎_elim, arith}
+use Rattle.std.specs.Prelude.{◌≡◌, ℕ, ◌+◌, ◌<◌, ◌≤◌, Bool, true, false, ◌⊎◌, List, [], ◌∷◌, length, take, drop, ◌≢◌, slice_index, refl}
+use Rattle.std.proofs.Common.{sym, ◌∙◌, ap, subst, inl, inr, ⊎_elim, arith, get_or-take, length-take-le}
 use Rattle.std.proofs.Math.Logic.{∥∥₁_map}
+use Rattle.std.proofs.lemmas.List.{drop_more, drop_all}
 use Rattle.keypad.specs.declared.key.Symbol.{Symbol}
 use Rattle.keypad.specs.declared.key.Symbol.TheVariants.{Plain}
 use Rattle.keypad.specs.declared.key.Mark.{Mark}
-use Rattle.keypad.specs.declared.key.Mark.TheVariants.{Unmarked}
+use Rattle.keypad.specs.declared.key.Mark.TheVariants.{Unmarked, Short, Long}
 use Rattle.keypad.specs.Entries.{Step, Entry, Entries, step, prepend, ended}
-use Rattle.keypad.specs.Sets.{Same, Starts, Ended, GoesOn}
-use Rattle.keypad.specs.Answers.{Tells, Pressed}
+use Rattle.keypad.specs.Sets.{Same, Starts, Ended, Settled, GoesOn, Under}
+use Rattle.keypad.specs.Answers.{Tells, Pressed, Timing}
 use Rattle.keypad.specs.Sets.{Empty}
 use Rattle.plans.specs.Fronts.{no_steps}
 use Rattle.plans.specs.Keyed.{behind}
@@ -105,10 +106,48 @@ module _ (k : ℕ) (ks : List ℕ) (a : Entries) where
   )
   pressed_behind s false e t = absurd (let z : ◌≡◌ {A = ℕ} 0 1 = cc in omega arith)
 
+  -- a key that is not taken leaves all keys of the code
+  pub refused_behind : (s : Symbol) (r : Bool) → r ≡ false → Takes s k a r
+      → Pressed (Behind (k ∷ ks) a) s r (Behind (k ∷ ks) a)
+  refused_behind s false e t = (starts_behind s false t, λ y. (λ x. x, λ x. x))
+  refused_behind s true e t = absurd (let z : ◌≡◌ {A = ℕ} 0 1 = cc in omega arith)
+
+  -- no entry has ended within the code
+  pub ended_behind : Ended (Behind (k ∷ ks) a) → ⊥
+  ended_behind x = no_steps _ _ (ap (λ (y : Entry). y.steps) x.2.2)
+
+  -- nor has one settled there
+  pub settled_behind : Settled (Behind (k ∷ ks) a) → ⊥
+  settled_behind x = no_steps _ _ (ap (λ (y : Entry). y.steps) x.1.2)
+
   -- each goes on
   pub goes_behind : (r : Bool) → Tells (Any a) r → Tells (GoesOn (Behind (k ∷ ks) a)) r
   goes_behind true t = ∥∥₁_map t (λ x. (step (Plain k) Unmarked, behind ks x.0, (x.0, x.1, refl)))
   goes_behind false t = λ x. t (x.2.0, x.2.1)
+
+  -- no entry waits under a mark there
+  under_behind : (m : Mark) → (m ≢ Unmarked) → Under (Behind (k ∷ ks) a) m → ⊥
+  under_behind m n =
+      ⊎_elim (λ x. n (ap (λ (u : Step). u.mark) (same_step _ _ _ _ x.2.2)))
+      (λ x. no_steps _ _ (ap (λ (y : Entry). y.steps) x.1.2))
+
+  -- so the timing within the code is unmarked
+  pub timing_behind : Timing (Behind (k ∷ ks) a) Unmarked
+  timing_behind = (
+    under_behind Long (λ e. let z : ◌≡◌ {A = ℕ} 0 1 = cc in omega arith),
+    under_behind Short (λ e. let z : ◌≡◌ {A = ℕ} 0 1 = cc in omega arith),
+  )
+
+-- the key that comes next, and the keys behind it
+pub next_key : (ks : List ℕ) (n i : ℕ) → n ≤ length ks → i < n
+    → drop i (take n ks) ≡ slice_index ks i ∷ drop (i + 1) (take n ks)
+next_key ks n i h l =
+    drop_more (take n ks) i 0 (omega (arith, length-take-le n ks h))
+    ∙ ap (λ k. k ∷ drop (i + 1) (take n ks)) (get_or-take n ks i 0 l)
+
+-- once all n keys are keyed, no key is left
+pub no_key : (ks : List ℕ) (n i : ℕ) → n ≤ length ks → n ≤ i → drop i (take n ks) ≡ []
+no_key ks n i h l = drop_all i (take n ks) (omega (arith, length-take-le n ks h))
 
 -- a code over a part that was rewound
 pub made : (ks ms : List ℕ) (a w r : Entries) → Sized ks → Keys ks → ms ≡ ks → Same w a → Same r a

@@ -1,7 +1,8 @@
 -- What remains of the entries of listed lots, and what a pressed digit leaves. Assumes nothing.
-use Rattle.std.specs.Prelude.{◌≡◌, ℕ, suc, ◌+◌, ◌-◌, ◌*◌, ◌/◌, ◌%◌, ◌^◌, ◌<◌, ◌≤◌, Bool, true, List, [], ◌≢◌, refl}
+use Rattle.std.specs.Prelude.{◌≡◌, ℕ, suc, ◌+◌, ◌-◌, ◌*◌, ◌/◌, ◌%◌, ◌^◌, ◌<◌, ◌≤◌, Bool, true, false, List, [], length, ◌≢◌, slice_index, refl}
 use Rattle.std.proofs.Common.{sym, ◌∙◌, ap, subst, ⊎_elim, mod-eq_of_lt, arith}
 use Rattle.std.proofs.Math.Nat.{div-eq_of_lt}
+use Rattle.std.proofs.ByRecursion.{has_get_or}
 use Rattle.std.proofs.lemmas.Bool.{cases_lt}
 use Rattle.keypad.specs.declared.key.Symbol.{Symbol}
 use Rattle.keypad.specs.declared.key.Symbol.TheVariants as symbol
@@ -13,7 +14,7 @@ use Rattle.keypad.specs.Answers.{Pressed, Timing}
 use Rattle.keypad.specs.Sets.{Empty}
 use Rattle.plans.specs.Writings.{writing}
 use Rattle.plans.specs.Lots.{numbered, Fitting, listed, listed_after, Begins}
-use Rattle.plans.specs.Fronts.{no_steps, awaited, awaited_behind}
+use Rattle.plans.specs.Fronts.{no_steps, awaited, awaited_behind, never_long}
 use Rattle.plans.specs.Fronts.{first_symbol, key, behind_first}
 use Rattle.plans.specs.WritingsLemmas.{begun, begins_on, tail}
 
@@ -86,6 +87,10 @@ module _ (ns : List ℕ) (w : ℕ) where
       let e = numbered (w - (t + 1)) (n % 10 ^ (w - (t + 1))) in
       let x = (pressed_after t p d more small e).0 (n, fits, q, refl) in (x.0, e, x.1)
 
+  -- no entry that is left begins with a long key
+  pub starts_long : (t p d : ℕ) → Starts (listed_after ns w t p) (symbol.Long d) → ⊥
+  starts_long t p d (m, e, (n, fits, q, is)) = never_long (writing (w - t) (n % 10 ^ (w - t))) d m e is
+
   -- the digit of an open key is taken
   pub pressed_plain : (t p d k : ℕ) (s : Symbol) (r : Bool) → s ≡ symbol.Plain k → r ≡ true → d ≡ k
       → Starts (listed_after ns w t p) (symbol.Plain k)
@@ -97,6 +102,14 @@ module _ (ns : List ℕ) (w : ℕ) where
         ∣ subst (λ (x : ℕ). Starts (listed_after ns w t p) (symbol.Plain x)) (sym same) starts ∣₁,
         pressed_after t p d sound.0 (omega (arith, sound.1, same)),
       ))
+
+  -- a long key is refused, and leaves the entries as they are
+  pub pressed_long : (t p d : ℕ) (s : Symbol) → s ≡ symbol.Long d
+      → Pressed (listed_after ns w t p) s false (listed_after ns w t p)
+  pressed_long t p d s is = (
+    subst (λ (x : Symbol). Starts (listed_after ns w t p) x → ⊥) (sym is) (starts_long t p d),
+    λ e. (λ x. x, λ x. x),
+  )
 
   pub ended_sound : (t p : ℕ) → t ≤ w → Ended (listed_after ns w t p) → (t ≡ w) × Begins ns w t p
   ended_sound t p within (m, h, x) = let At : ℕ → Type 0 = λ k. Left k p (ended m h) in
@@ -153,3 +166,16 @@ module _ (ns : List ℕ) (w : ℕ) where
 
   pub listed_empty : ((n : ℕ) → Fitting ns w n → ⊥) → Empty (listed ns w)
   listed_empty none e (n, fits, is) = none n fits
+
+  -- a number of the list that fits and begins so does so at its place
+  pub begins_at : (t p i : ℕ) → i < length ns → slice_index ns i < 10 ^ w
+      → slice_index ns i / 10 ^ (w - t) ≡ p → Begins ns w t p
+  begins_at t p i inside fits q = (slice_index ns i, (has_get_or ns i 0 inside, fits), q)
+
+  -- where no place has a number that fits and begins so, none begins so
+  pub begins_never : (t p : ℕ)
+      → ((k : ℕ) → k < length ns → slice_index ns k < 10 ^ w → slice_index ns k / 10 ^ (w - t) ≢ p)
+      → Begins ns w t p → ⊥
+  begins_never t p missed (n, ((k, inside, at), fits), q) =
+      missed k inside (subst (λ (x : ℕ). x < 10 ^ w) (sym (at 0)) fits)
+      (ap (λ (x : ℕ). x / 10 ^ (w - t)) (at 0) ∙ q)

@@ -1,12 +1,15 @@
 ghost use Rattle.std.specs.Prelude.{◌≡◌, ◌^◌, ◌≤◌};
 ghost use Rattle.plans.specs.Writings.{WritingStands};
 
+// The powers of ten by their exponent. They are looked up, since a plan asks for two of them at every call.
+const POWERS_OF_TEN: [u32; 7] = [1, 10, 100, 1_000, 10_000, 100_000, 1_000_000];
+
 // The unit of the place behind which so many digits stand.
 pub(crate) fn power_of_ten(places: u8) -> u32
     requires { places ≤ 6 }
     ensures { result ≡ 10 ^ places }
 {
-    10u32.pow(u32::from(places))
+    POWERS_OF_TEN[usize::from(places)]
 }
 
 // A number's writing is the one list of so many digits that reads as the number.
