@@ -17,7 +17,7 @@ pub(crate) fn any_live<F: Fn(Node) -> bool>(plan: &MapPlan, asks: F) -> bool
     requires { F.IsAlwaysCallable asks }
     ensures { (p : Node → Bool) → Asks (F.post asks) p → Tells (SomeAnswers plan.now p) result }
 {
-    // A `for` and no chain: in it each place is known to be one of the set's words, so that no test is made of it.
+    // A `for` and no chain: in it each place is known to lie in the set's words, so that none is tested for it.
     for (place, node) in plan.map.places().iter().enumerate() {
         if plan.live.has(place) && asks(*node) {
             return true;

@@ -15,7 +15,7 @@ fn hex_digit(value: u8) -> char
     char::from(key_letter(value))
 }
 
-// Writes a byte by its number. Its digits are pushed: a `{byte:02X}` takes three times as long.
+// Writes a byte by its number. Its digits are pushed: a `{byte:02X}` takes three times the instructions.
 fn write_number(out: &mut String, byte: u8) -> Result<(), AllocError>
     ensures { Adds out.old result (numbered byte) out.new }
 {

@@ -1,7 +1,7 @@
 ghost use Rattle.std.specs.Prelude.{◌≡◌, ◌^◌, ◌≤◌};
 ghost use Rattle.plans.specs.Writings.{WritingStands};
 
-// The powers of ten by their exponent. They are looked up, since a plan asks for two of them at every call.
+// The powers of ten by their exponent. They are looked up, since each search of a plan's lots asks for two of them.
 const POWERS_OF_TEN: [u32; 7] = [1, 10, 100, 1_000, 10_000, 100_000, 1_000_000];
 
 // The unit of the place behind which so many digits stand.
